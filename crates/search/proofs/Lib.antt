@@ -1,0 +1,9 @@
+-- The laws.
+pub mod Filled
+pub mod Rounds
+pub mod Reach
+pub mod Never
+pub mod Least
+pub mod Distance
+pub mod Stops
+pub mod Counts

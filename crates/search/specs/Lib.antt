@@ -1,0 +1,4 @@
+-- What a search by rounds is, and what its marks mean.
+pub mod Rounds
+pub mod Reach
+pub mod Worked
