@@ -1,0 +1,94 @@
+-- Laws of sizes: t is positive and grows with n and with the level, so the largest hall bounds every other; and what a valid hall is.
+use mathlib.Core.Path.{_≡_, refl, sym, _∙_, ap}
+use mathlib.Core.Bool.{Bool, true, false}
+use Prim.Native.Nat.{ℕ, zero, suc, min, _+_, _-_, _*_, _<_, _≤_}
+use native.Mathlib.Nat.{le-trans, mul-le-mul}
+use native.Mathlib.Numerals.{add-one}
+use native.Mathlib.Omega.{arith}
+use lib.Dec.{leb}
+use lib.Arith.{le-zero}
+use borrow.Author.Tests.{leb-true, leb-false, le-leb, lt-leb}
+use Rattle.combine.specs.Tests.{both}
+use Rattle.combine.proofs.Tests.{cases, both-left, both-right}
+use Rattle.hall.specs.declared.Hall.{Hall}
+use Rattle.hall.specs.Cells.{t, g}
+use Rattle.hall.specs.Halls.{nFits, kFits, bFits, valid, servers, largest}
+use Rattle.hall.specs.Answers.{sizeAt}
+use Rattle.hall.proofs.Cells.{t-pos}
+
+pub t-more : (n m i : ℕ) → n ≤ m → t n i ≤ t m i
+unfolding t
+t-more n m zero h = h
+t-more n m (suc i) h = let k = t-more n m i h in omega (arith, mul-le-mul k k)
+
+pub t-up : (n i j : ℕ) → i ≤ j → t n i ≤ t n j
+unfolding t
+t-up n i zero h = rw (le-zero h) (omega arith)
+t-up n i (suc j) h = cases (leb i j)
+    (λ q. omega (arith, t-up n i j (leb-true i j q)))
+    (λ q. let z : i ≡ suc j = omega (arith, leb-false i j q) in rw z (omega arith))
+
+-- no hall is larger than that of n = 8, k = 3
+pub t-fits : (n i : ℕ) → n ≤ 8 → i ≤ 3 → t n i ≤ largest
+unfolding t
+t-fits n i h k = le-trans (t-more n 8 i h) (t-up 8 i 3 k)
+
+-- a size as the code works it out from the one before
+pub t-next : (n j s : ℕ) → s ≡ t n j → (s + 1) * s ≡ t n (j + 1)
+unfolding t
+t-next n j s e = rw (add-one j, e)
+
+pub next-fits : (n j s : ℕ) → n ≤ 8 → j < 3 → s ≡ t n j → (s + 1) * s ≤ largest
+next-fits n j s h k e = rw (t-next n j s e) (t-fits n (j + 1) h (omega arith))
+
+pub g-next : (n j : ℕ) → g n (j + 1) ≡ t n j + 1
+unfolding g
+g-next n j = rw (add-one j)
+
+pub g-at : (n i : ℕ) → 0 < i → g n i ≡ t n (i - 1) + 1
+unfolding g
+g-at n zero h = absurd (omega arith)
+g-at n (suc j) h = let e : suc j - 1 ≡ j = omega arith in rw e
+
+-- what is known of a valid hall
+pub record Valid (h : Hall) : Type 0 where
+  pub n-low : 2 ≤ h .n
+  pub n-high : h .n ≤ 8
+  pub k-high : h .k ≤ 3
+  pub b-high : h .b ≤ 1
+  pub b-low : h .b ≤ h .k
+
+pub valid-known : (h : Hall) → valid h ≡ true → Valid h
+unfolding valid nFits kFits bFits
+valid-known h e =
+    let n = both-left (nFits (h .n)) (both (kFits (h .n) (h .k)) (bFits (h .k) (h .b))) e in
+    let kb = both-right (nFits (h .n)) (both (kFits (h .n) (h .k)) (bFits (h .k) (h .b))) e in
+    let b = leb-true (h .b) (min 1 (h .k)) (both-right (kFits (h .n) (h .k)) (bFits (h .k) (h .b)) kb) in
+    record {
+      n-low = leb-true 2 (h .n) (both-left (leb 2 (h .n)) (leb (h .n) 8) n);
+      n-high = leb-true (h .n) 8 (both-right (leb 2 (h .n)) (leb (h .n) 8) n);
+      k-high = leb-true (h .k) 3 (both-left (kFits (h .n) (h .k)) (bFits (h .k) (h .b)) kb);
+      b-high = omega arith;
+      b-low = omega arith;
+    }
+
+-- every size of a valid hall is positive and bounded
+pub valid-pos : (h : Hall) → Valid h → (i : ℕ) → 0 < t (h .n) i
+valid-pos h v i = t-pos (h .n) (omega arith) i
+
+pub valid-size : (h : Hall) → Valid h → (i : ℕ) → i ≤ h .k → t (h .n) i ≤ largest
+valid-size h v i l = t-fits (h .n) i (v .n-high) (omega arith)
+
+-- every uid of a valid hall is below the servers of the largest
+pub uid-fits : (h : Hall) → Valid h → (u : ℕ) → u < servers h → u < largest
+unfolding servers
+uid-fits h v u l = omega (arith, valid-size h v (h .k) (omega arith))
+
+-- a size of a hall up to k, and above
+pub size-at : (n k i : ℕ) → i ≤ k → sizeAt n k i ≡ t n i
+unfolding sizeAt
+size-at n k i h = rw (le-leb i k h)
+
+pub size-above : (n k i : ℕ) → k < i → sizeAt n k i ≡ 0
+unfolding sizeAt
+size-above n k i h = rw (lt-leb i k h)

@@ -1,0 +1,8 @@
+-- The laws.
+pub mod Place
+pub mod Cells
+pub mod Links
+pub mod Tuples
+pub mod Growth
+pub mod Wide
+pub mod Asks

@@ -1,0 +1,37 @@
+-- `hall::cell_around` meets its contract: the cell's first uid is its number times its size.
+use borrow.Author.Needs.{needs}
+use mathlib.Core.Path.{_≡_, refl, sym, _∙_, ap}
+use Prim.Native.Nat.{ℕ, _/_, _*_, _<_, _≤_}
+use native.Mathlib.Nat.{div-mul-le-self}
+use native.Mathlib.Omega.{arith}
+use Rattle.hall.specs.Cells.{t, cell}
+use Rattle.hall.proofs.Growth.{valid-pos}
+use Rattle.hall.proofs.Asks.{SoundLevel, level-known, refused-test, sound-test}
+use Rattle.hall.proofs.cell_around.Statement.{statement}
+use Rattle.hall.proofs.cell_around.Tie as tie
+
+refused-level-requires : tie.Need-refused-level-requires
+refused-level-requires c κs = search needs
+
+returns : tie.Need-returns
+returns c = let r = c .before .refused-level in rw (refused-test (r .ensures) (c .if1 .taken), ← r .ensures)
+
+known : (c : tie.Else1) → SoundLevel (c .before .before .args .h) (c .before .before .args .uid) 0 (c .before .before .args .level)
+known c = level-known _ _ _ _ (sym (c .before .refused-level .ensures) ∙ c .if1 .left)
+
+size-requires : tie.Need-size-requires
+size-requires c κs = let k = known c in (k .known .n-high, omega arith)
+
+div-t7 : tie.Need-div-t7
+div-t7 c = let k = known (c .before) in omega (arith, valid-pos _ (k .known) (c .before .before .before .args .level), c .size .ensures)
+
+mul-t8 : tie.Need-mul-t8
+mul-t8 c = omega (arith, div-mul-le-self (c .before .before .before .args .uid) (c .size .result))
+
+returns-2 : tie.Need-returns-2
+unfolding cell
+returns-2 c = rw (sound-test (c .before .before .refused-level .ensures) (c .before .if1 .left), c .size .ensures)
+
+pub cell-around-spec : {M : Type 1} → statement M
+cell-around-spec =
+    tie.close (tie.spec refused-level-requires returns size-requires div-t7 mul-t8 returns-2)

@@ -1,0 +1,48 @@
+-- Which halls there are, and what a call asks of a hall and a uid.
+-- Section "The hall and its numbers".
+use mathlib.Core.Bool.{Bool, true, false}
+use Prim.Native.Nat.{ℕ, min, _+_}
+use lib.Dec.{eqb, leb, ltb}
+use Rattle.combine.specs.Tests.{both}
+use Rattle.hall.specs.declared.Hall.{Hall}
+use Rattle.hall.specs.Refusals.{Ask, bad-hall, bad-uid, bad-range}
+use Rattle.hall.specs.Cells.{t}
+
+-- the places of a tuple, one for each level that a hall may have
+abbrev pub places : ℕ
+places = 4
+
+-- the servers of the largest hall
+abbrev pub largest : ℕ
+largest = 27630792
+
+-- n 2 to 8
+unfoldable pub nFits : ℕ → Bool
+nFits n = both (leb 2 n) (leb n 8)
+
+-- k 0 to 3
+unfoldable pub kFits : ℕ → ℕ → Bool
+kFits n k = leb k 3
+
+-- b 0 to the smaller of 1 and k
+unfoldable pub bFits : ℕ → ℕ → Bool
+bFits k b = leb b (min 1 k)
+
+-- there is such a hall
+unfoldable pub valid : Hall → Bool
+valid h = both (nFits (h .n)) (both (kFits (h .n) (h .k)) (bFits (h .k) (h .b)))
+
+-- t(k): the servers of the hall
+unfoldable pub servers : Hall → ℕ
+servers h = t (h .n) (h .k)
+
+abbrev pub asksHall : Hall → Ask
+asksHall h = (bad-hall, valid h)
+
+-- a uid is below t(k)
+abbrev pub asksUid : Hall → ℕ → Ask
+asksUid h u = (bad-uid, ltb u (servers h))
+
+-- a level is from its lowest to k
+abbrev pub asksLevel : Hall → ℕ → ℕ → Ask
+asksLevel h lowest i = (bad-range, both (leb lowest i) (leb i (h .k)))

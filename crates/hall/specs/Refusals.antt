@@ -1,0 +1,77 @@
+-- The refusal numbers, and the order in which a call gives them.
+-- Section "Refusal numbers".
+use Prim.Native.Nat.{ℕ}
+use mathlib.Core.Bool.{Bool, true, false, not}
+use mathlib.Core.List.{List, [], _∷_}
+use lib.Dec.{eqb}
+use Rattle.combine.specs.Tests.{pick, both, either}
+
+-- n, k or b outside its range
+abbrev pub bad-hall : ℕ
+bad-hall = 1
+
+-- a uid that is not below t(k)
+abbrev pub bad-uid : ℕ
+bad-uid = 2
+
+-- a tuple entry, level or sub-cell index outside its range, or the two sub-cells of a link equal
+abbrev pub bad-range : ℕ
+bad-range = 3
+
+-- a table or section count of the wrong length
+abbrev pub bad-length : ℕ
+bad-length = 4
+
+-- a code that is unknown
+abbrev pub bad-code : ℕ
+bad-code = 5
+
+-- lent room shorter than what would be written
+abbrev pub short-room : ℕ
+short-room = 6
+
+-- a frame shorter than 20 bytes, DHL or payload says
+abbrev pub short-frame : ℕ
+short-frame = 7
+
+-- version, DHL, flags, PF or retry outside the rule
+abbrev pub bad-header : ℕ
+bad-header = 8
+
+-- a checksum that is not the one worked out
+abbrev pub bad-checksum : ℕ
+bad-checksum = 9
+
+-- a sheet cut, too long or with bytes left over
+abbrev pub bad-sheet : ℕ
+bad-sheet = 10
+
+-- an address of the wrong kind, a broadcast with a proxy, a scope too high
+abbrev pub bad-address : ℕ
+bad-address = 11
+
+-- the order in which a call gives them
+abbrev pub order : List ℕ
+order = bad-hall ∷ bad-length ∷ bad-uid ∷ bad-range ∷ bad-header ∷ bad-address ∷ bad-code ∷ short-room ∷ []
+
+-- what a call asks of its input: a refusal's number, and whether the input is sound there
+abbrev pub Ask : Type 0
+Ask = ℕ × Bool
+
+-- an ask of this number fails
+abbrev pub fails : ℕ → List Ask → Bool
+fails number [] = false
+fails number (a ∷ asks) = either (both (eqb (a .0) number) (not (a .1))) (fails number asks)
+
+-- the first of these numbers of which an ask fails, 0 where none does
+abbrev pub firstFailing : List ℕ → List Ask → ℕ
+firstFailing [] asks = 0
+firstFailing (number ∷ rest) asks = pick (fails number asks) number (firstFailing rest asks)
+
+-- a call's refusal: 0 where all that it asks holds
+unfoldable pub refusal : List Ask → ℕ
+refusal asks = firstFailing order asks
+
+-- a call's answer: good where nothing is refused, else what a refusal of that number answers
+abbrev pub answered {ℓ} : {A : Type ℓ} → ℕ → A → (ℕ → A) → A
+answered number good refused = pick (eqb number 0) good (refused number)
