@@ -1,0 +1,16 @@
+-- The laws.
+pub mod Lists
+pub mod Lowest
+pub mod Routes
+pub mod Once
+pub mod Counts
+pub mod Above
+pub mod Recursion
+pub mod First
+pub mod Rest
+pub mod Delivery
+pub mod Local
+pub mod Inside
+pub mod Filling
+pub mod Search
+pub mod Answers

@@ -1,0 +1,77 @@
+-- `route::first_link` meets its contract: where the hall and both servers are sound, it is what `first_above` finds.
+use mathlib.Core.Path.{_≡_, sym, _∙_, ap}
+use Prim.Native.Nat.{_<_}
+use native.Mathlib.Omega.{arith}
+use borrow.Author.Needs.{needs}
+use Rattle.hall.specs.Halls.{servers}
+use Rattle.route.proofs.Answers.{Given, sizes-refused, sizes-given, whole-hall, first-no-hall, first-no-x, first-no-y, first-found}
+use Rattle.route.proofs.first_link.Statement.{statement}
+use Rattle.route.proofs.first_link.Tie as tie
+
+sizes-of-requires : tie.Need-sizes-of-requires
+sizes-of-requires c κs = search needs
+
+returns : tie.Need-returns
+returns c =
+    let a = c .before .before .before .args in
+    let s = c .before .before .sizes-of in
+    first-no-hall (a .h) (a .x) (a .y) (sizes-refused (a .h) (s .result) (s .ensures) (c .if1 .taken) .0)
+
+cast-k : tie.Need-cast-k
+cast-k c = search needs
+
+mul-servers : tie.Need-mul-servers
+mul-servers c = search needs
+
+-- the hall's sizes, where they are not refused
+given : (c : tie.After-struct-known2) → Given (c .before .before .before .before .before .args .h) (c .before .before .before .before .sizes-of .result .t)
+given c = let s = c .before .before .before .before .sizes-of in
+    sizes-given (c .before .before .before .before .before .args .h) (s .result) (s .ensures) (c .before .before .if1 .left)
+
+array-read-servers : tie.Need-array-read-servers
+array-read-servers c = omega (arith, given c .known .k-high)
+
+returns-2 : tie.Need-returns-2
+returns-2 c =
+    let a = c .before .before .before .before .before .before .args in
+    first-no-x (a .h) (a .x) (a .y) (omega (arith, given (c .before) .at-k))
+
+returns-3 : tie.Need-returns-3
+returns-3 c =
+    let a = c .before .before .before .before .before .before .before .args in
+    first-no-y (a .h) (a .x) (a .y) (omega (arith, given (c .before .before) .at-k))
+
+-- both servers are in the hall
+x-fits : (c : tie.Else3) → c .before .before .before .before .before .before .before .args .x < servers (c .before .before .before .before .before .before .before .args .h)
+x-fits c = omega (arith, given (c .before .before) .at-k)
+
+y-fits : (c : tie.Else3) → c .before .before .before .before .before .before .before .args .y < servers (c .before .before .before .before .before .before .before .args .h)
+y-fits c = omega (arith, given (c .before .before) .at-k)
+
+first-above-requires : tie.Need-first-above-requires
+first-above-requires c κs =
+    let e = c .before in
+    let s = e .before .before .before .before .before .before in
+    let a = s .before .args in
+    whole-hall (a .h) (s .sizes-of .result .t) (a .x) (a .y) (given (e .before .before)) (x-fits e) (y-fits e)
+
+returns-4 : tie.Need-returns-4
+returns-4 c =
+    let e = c .before .before in
+    let s = e .before .before .before .before .before .before in
+    let a = s .before .args in
+    first-found (a .h) (a .x) (a .y) (s .sizes-of .result .t) (c .first-above .result) (given (e .before .before)) (x-fits e) (y-fits e) (c .first-above .ensures)
+
+pub first-link-spec : {M : Type 1} → statement M
+first-link-spec =
+    tie.close
+    (tie.spec
+    sizes-of-requires
+    returns
+    cast-k
+    mul-servers
+    array-read-servers
+    returns-2
+    returns-3
+    first-above-requires
+    returns-4)
