@@ -1,0 +1,5 @@
+-- The laws.
+pub mod Tables
+pub mod Links
+pub mod Parts
+pub mod Runs

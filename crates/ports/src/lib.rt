@@ -1,0 +1,134 @@
+// Tables of port codes: which ports are up, the check of a hall table, and its part for a server.
+pub mod codes;
+
+ghost use mathlib.Core.Path.{_≡_};
+ghost use mathlib.Core.List.{[]};
+ghost use Prim.Native.Nat.{_+_, _*_, _≤_, _<_};
+ghost use mathlib.Core.Bool.{true};
+ghost use Rattle.hall.specs.Cells.{t};
+ghost use Rattle.hall.specs.Halls.{valid};
+ghost use Rattle.ports.specs.Codes.{known, firstUnknown, up};
+ghost use Rattle.ports.specs.Answers.{checkOf, partRefusal, partOf};
+use crate::codes::HELD;
+use crate::codes::UP;
+use hall::Hall;
+use hall::refusals::BAD_CODE;
+use hall::refusals::BAD_HALL;
+use hall::refusals::BAD_LENGTH;
+use hall::refusals::BAD_UID;
+
+// A table check's answer: place is the first unknown code's index where the refusal is BAD_CODE, else 0.
+pub struct TableCheck {
+    pub refusal: u32,
+    pub place: u32,
+}
+
+// Whether a port is up: of a server by its uid in a hall table, by its place in the table of a DCell.
+pub fn is_up(h: Hall, table: &[u8], server: u32, port: u32) -> bool
+    ensures { λ r. ⌜ r ≡ up h (now (table .entry)) server port ⌝ }
+{
+    let at = (server as usize) * ((h.k as usize) + 1) + (port as usize);
+    if at < table.len() {
+        table[at] == UP
+    } else {
+        false
+    }
+}
+
+fn is_known(code: u8) -> bool
+    ensures { λ r. ⌜ r ≡ known code ⌝ }
+{
+    code <= HELD
+}
+
+// Where the first unknown code stands; the table's length where there is none.
+fn first_unknown(table: &[u8]) -> usize
+    ensures { λ r. ⌜ r ≡ firstUnknown (now (table .entry)) ⌝ }
+{
+    let mut i: usize = 0;
+    while i < table.len() {
+        if !is_known(table[i]) {
+            return i;
+        }
+        i += 1;
+    }
+    i
+}
+
+// The bytes of a table of so many servers, with the ports 0 to k.
+fn bytes_of(servers: u32, k: u32) -> usize
+    ensures { λ r. ⌜ r ≡ servers * (k + 1) ⌝ }
+{
+    (servers as usize) * ((k as usize) + 1)
+}
+
+// Whether a hall table has its length and known codes alone.
+pub fn check_table(h: Hall, table: &[u8]) -> TableCheck
+    ensures { λ r. ⌜ r ≡ checkOf h (now (table .entry)) ⌝ }
+{
+    let servers = hall::servers_of(h);
+    if servers == 0 {
+        return TableCheck {
+            refusal: BAD_HALL,
+            place: 0,
+        };
+    }
+    if table.len() != bytes_of(servers, h.k) {
+        return TableCheck {
+            refusal: BAD_LENGTH,
+            place: 0,
+        };
+    }
+    let at = first_unknown(table);
+    if at < table.len() {
+        return TableCheck {
+            refusal: BAD_CODE,
+            place: at as u32,
+        };
+    }
+    TableCheck {
+        refusal: 0,
+        place: 0,
+    }
+}
+
+// Why a hall table's part for a server is refused, 0 where it is not.
+pub fn part_refusal(h: Hall, table: &[u8], uid: u32) -> u32
+    ensures { λ r. ⌜ r ≡ partRefusal h (now (table .entry)) uid ⌝ }
+{
+    let servers = hall::servers_of(h);
+    if servers == 0 {
+        return BAD_HALL;
+    }
+    if table.len() != bytes_of(servers, h.k) {
+        return BAD_LENGTH;
+    }
+    if servers <= uid {
+        return BAD_UID;
+    }
+    0
+}
+
+// t(b), the servers of a DCell(b).
+fn local_servers(h: Hall) -> u32
+    requires { ⌜ valid h ≡ true ⌝ }
+    ensures { λ r. ⌜ r ≡ t (h .n) (h .b) ⌝ }
+{
+    let sizes = hall::sizes_of(h).t;
+    let b = h.b as usize;
+    sizes[b]
+}
+
+// The part of a hall table that holds a server's DCell(b); empty where it is refused.
+pub fn part_of(h: Hall, table: &[u8], uid: u32) -> &[u8]
+    ensures { λ r. ⌜ now r ≡ partOf h (now (table .entry)) uid ⌝ }
+{
+    if part_refusal(h, table, uid) != 0 {
+        return &table[0..0];
+    }
+    let count = local_servers(h);
+    let bytes = bytes_of(count, h.k);
+    let from = ((uid / count) as usize) * bytes;
+    let to = from + bytes;
+    &table[from..to]
+}
