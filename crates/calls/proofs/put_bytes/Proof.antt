@@ -1,0 +1,65 @@
+-- `calls::put_bytes` meets its contract: the bytes below i stand in the room, and the room behind them is as it was.
+use mathlib.Core.Path.{_≡_, refl, sym, _∙_, ap}
+use mathlib.Core.List.{List, _++_}
+use Prim.Native.Nat.{ℕ, zero, suc, _+_, _-_, _≤_, _<_}
+use native.Mathlib.Omega.{arith}
+use lib.ListN.{length, take, drop, getD, set, length-set}
+use lib.Seq.{take-all}
+use Rattle.calls.proofs.Told.{Put, put-more}
+use Rattle.calls.proofs.put_bytes.Statement.{statement}
+use Rattle.calls.proofs.put_bytes.Tie as tie
+
+abbrev Inv-loop : tie.InvT-loop
+Inv-loop bytes room₀ i₀ room i = (i ≤ length bytes) × (length room ≡ length room₀) × (room ≡ Put bytes room₀ i)
+
+abbrev μ-loop : tie.MeasureT-loop
+μ-loop bytes room₀ i₀ room i = length bytes - i
+
+loop-holds : tie.Need-loop-holds Inv-loop μ-loop
+loop-holds c = (omega arith, refl, refl)
+
+shared-slice-read-room : tie.Need-shared-slice-read-room Inv-loop μ-loop
+shared-slice-read-room c = omega arith
+
+slice-write-room : tie.Need-slice-write-room Inv-loop μ-loop
+slice-write-room c = omega arith
+
+add-i : tie.Need-add-i Inv-loop μ-loop
+add-i c = omega arith
+
+loop-less : tie.Need-loop-less Inv-loop μ-loop
+loop-less c = omega arith
+
+loop-again : tie.Need-loop-again Inv-loop μ-loop
+loop-again c =
+    let w = c .before .before .loop in
+    let a = c .before .before .before .args in (
+      omega arith,
+      length-set (w .room) (w .i) _ ∙ w .inv .1,
+      rw (w .inv .2) (put-more (a .bytes .now) (a .room .now) (w .i) (omega arith) (omega arith)),
+    )
+
+same-length : tie.Need-same-length Inv-loop μ-loop
+same-length c = c .before .loop .inv .1
+
+returns : tie.Need-returns Inv-loop μ-loop
+returns c =
+    let w = c .before .loop in
+    let a = c .before .before .args in
+    let e : w .i ≡ length (a .bytes .now) = omega arith in
+    w .inv .2 ∙ rw (e, take-all (length (a .bytes .now)) (a .bytes .now) (omega arith))
+
+pub put-bytes-spec : {M : Type 1} → statement M
+put-bytes-spec =
+    tie.close
+    (tie.spec
+    Inv-loop
+    μ-loop
+    loop-holds
+    shared-slice-read-room
+    slice-write-room
+    add-i
+    loop-less
+    loop-again
+    same-length
+    returns)

@@ -1,0 +1,3 @@
+-- What an exported call returns and leaves in its room.
+pub mod Rooms
+pub mod Outcomes

@@ -1,0 +1,43 @@
+-- Each answer as a refusal's number and its other values in order.
+use mathlib.Core.List.{List, [], _∷_}
+use Prim.Native.Nat.{ℕ}
+use Rattle.hall.specs.declared.Hall.{Hall}
+use Rattle.hall.specs.declared.Sizes.{Sizes}
+use Rattle.hall.specs.declared.Uid.{Uid}
+use Rattle.hall.specs.declared.Tuple.{Tuple}
+use Rattle.hall.specs.declared.Cell.{Cell}
+use Rattle.hall.specs.declared.Neighbour.{Neighbour}
+use Rattle.hall.specs.declared.Link.{Link}
+use Rattle.route.specs.declared.Route.{Route}
+use Rattle.ports.specs.Answers.{partRefusal, partOf}
+use Rattle.calls.specs.Rooms.{Outcome}
+
+-- the hall of three numbers
+abbrev pub hallOf : ℕ → ℕ → ℕ → Hall
+hallOf n k b = record { n = n; k = k; b = b }
+
+abbrev pub ofSizes : Sizes → Outcome
+ofSizes a = (a .refusal, a .t)
+
+abbrev pub ofUid : Uid → Outcome
+ofUid a = (a .refusal, a .uid ∷ [])
+
+abbrev pub ofTuple : Tuple → Outcome
+ofTuple a = (a .refusal, a .entries)
+
+abbrev pub ofCell : Cell → Outcome
+ofCell a = (a .refusal, a .first ∷ a .count ∷ [])
+
+abbrev pub ofNeighbour : Neighbour → Outcome
+ofNeighbour a = (a .refusal, a .uid ∷ [])
+
+abbrev pub ofLink : Link → Outcome
+ofLink a = (a .refusal, a .from ∷ a .to ∷ [])
+
+-- a route's uids; its links are told by a number of their own
+abbrev pub ofRoute : Route → Outcome
+ofRoute a = (a .refusal, a .uids)
+
+-- the part of a hall table for a server
+abbrev pub ofPart : Hall → List ℕ → ℕ → Outcome
+ofPart h table u = (partRefusal h table u, partOf h table u)

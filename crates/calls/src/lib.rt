@@ -1,0 +1,192 @@
+// Every public call for a caller outside of Rattle, on plain numbers and slices: what the separate implementation is compared with.
+ghost use mathlib.Core.Path.{_≡_};
+ghost use mathlib.Core.List.{[], _∷_, _++_};
+ghost use Prim.Native.Nat.{_≤_};
+ghost use lib.ListN.{length, drop};
+ghost use Rattle.hall.specs.Answers.{sizesOf, uidOf, tupleOf, cellAround, neighbourOf, linkBetween};
+ghost use Rattle.route.specs.Answers.{routeBetween};
+ghost use Rattle.ports.specs.Answers.{checkOf};
+ghost use Rattle.calls.specs.Rooms.{told, written};
+ghost use Rattle.calls.specs.Outcomes.{hallOf, ofSizes, ofUid, ofTuple, ofCell, ofNeighbour, ofLink, ofRoute, ofPart};
+use hall::Hall;
+use hall::refusals::SHORT_ROOM;
+
+// The words at the start of the room.
+fn put(words: &[u32], room: &mut [u32])
+    requires { ⌜ length (now words) ≤ length (now room) ⌝ }
+    ensures { λ _. ⌜ now (room .exit) ≡ now (words .entry) ++ drop (length (now (words .entry))) (now (room .entry)) ⌝ }
+{
+    let mut i: usize = 0;
+    while i < words.len() {
+        room[i] = words[i];
+        i += 1;
+    }
+}
+
+// The bytes at the start of the room.
+fn put_bytes(bytes: &[u8], room: &mut [u8])
+    requires { ⌜ length (now bytes) ≤ length (now room) ⌝ }
+    ensures { λ _. ⌜ now (room .exit) ≡ now (bytes .entry) ++ drop (length (now (bytes .entry))) (now (room .entry)) ⌝ }
+{
+    let mut i: usize = 0;
+    while i < bytes.len() {
+        room[i] = bytes[i];
+        i += 1;
+    }
+}
+
+// An answer: its refusal, and its words in the room where there is none.
+fn tell(number: u32, words: &[u32], room: &mut [u32]) -> u32
+    ensures number { λ r. ⌜ r ≡ told (number, now (words .entry)) (now (room .entry)) ⌝ }
+    ensures room { λ _. ⌜ now (room .exit) ≡ written (number, now (words .entry)) (now (room .entry)) ⌝ }
+{
+    if number != 0 {
+        return number;
+    }
+    if room.len() < words.len() {
+        return SHORT_ROOM;
+    }
+    put(words, room);
+    0
+}
+
+// The same for an answer in bytes.
+fn tell_bytes(number: u32, bytes: &[u8], room: &mut [u8]) -> u32
+    ensures number { λ r. ⌜ r ≡ told (number, now (bytes .entry)) (now (room .entry)) ⌝ }
+    ensures room { λ _. ⌜ now (room .exit) ≡ written (number, now (bytes .entry)) (now (room .entry)) ⌝ }
+{
+    if number != 0 {
+        return number;
+    }
+    if room.len() < bytes.len() {
+        return SHORT_ROOM;
+    }
+    put_bytes(bytes, room);
+    0
+}
+
+#[no_mangle]
+pub extern "C" fn calls_sizes(n: u32, k: u32, b: u32, room: &mut [u32]) -> u32
+    ensures number { λ r. ⌜ r ≡ told (ofSizes (sizesOf (hallOf n k b))) (now (room .entry)) ⌝ }
+    ensures room { λ _. ⌜ now (room .exit) ≡ written (ofSizes (sizesOf (hallOf n k b))) (now (room .entry)) ⌝ }
+{
+    let a = hall::sizes_of(Hall { n, k, b });
+    let words = a.t;
+    tell(a.refusal, &words, room)
+}
+
+#[no_mangle]
+pub extern "C" fn calls_uid(
+    n: u32,
+    k: u32,
+    b: u32,
+    a0: u32,
+    a1: u32,
+    a2: u32,
+    a3: u32,
+    room: &mut [u32],
+) -> u32
+    ensures number { λ r. ⌜ r ≡ told (ofUid (uidOf (hallOf n k b) (a0 ∷ a1 ∷ a2 ∷ a3 ∷ []))) (now (room .entry)) ⌝ }
+    ensures room { λ _. ⌜ now (room .exit) ≡ written (ofUid (uidOf (hallOf n k b) (a0 ∷ a1 ∷ a2 ∷ a3 ∷ []))) (now (room .entry)) ⌝ }
+{
+    let a = hall::uid_of(Hall { n, k, b }, [a0, a1, a2, a3]);
+    let words = [a.uid];
+    tell(a.refusal, &words, room)
+}
+
+#[no_mangle]
+pub extern "C" fn calls_tuple(n: u32, k: u32, b: u32, uid: u32, room: &mut [u32]) -> u32
+    ensures number { λ r. ⌜ r ≡ told (ofTuple (tupleOf (hallOf n k b) uid)) (now (room .entry)) ⌝ }
+    ensures room { λ _. ⌜ now (room .exit) ≡ written (ofTuple (tupleOf (hallOf n k b) uid)) (now (room .entry)) ⌝ }
+{
+    let a = hall::tuple_of(Hall { n, k, b }, uid);
+    let words = a.entries;
+    tell(a.refusal, &words, room)
+}
+
+#[no_mangle]
+pub extern "C" fn calls_cell(n: u32, k: u32, b: u32, uid: u32, level: u32, room: &mut [u32]) -> u32
+    ensures number { λ r. ⌜ r ≡ told (ofCell (cellAround (hallOf n k b) uid level)) (now (room .entry)) ⌝ }
+    ensures room { λ _. ⌜ now (room .exit) ≡ written (ofCell (cellAround (hallOf n k b) uid level)) (now (room .entry)) ⌝ }
+{
+    let a = hall::cell_around(Hall { n, k, b }, uid, level);
+    let words = [a.first, a.count];
+    tell(a.refusal, &words, room)
+}
+
+#[no_mangle]
+pub extern "C" fn calls_neighbour(
+    n: u32,
+    k: u32,
+    b: u32,
+    uid: u32,
+    level: u32,
+    room: &mut [u32],
+) -> u32
+    ensures number { λ r. ⌜ r ≡ told (ofNeighbour (neighbourOf (hallOf n k b) uid level)) (now (room .entry)) ⌝ }
+    ensures room { λ _. ⌜ now (room .exit) ≡ written (ofNeighbour (neighbourOf (hallOf n k b) uid level)) (now (room .entry)) ⌝ }
+{
+    let a = hall::neighbour_of(Hall { n, k, b }, uid, level);
+    let words = [a.uid];
+    tell(a.refusal, &words, room)
+}
+
+#[no_mangle]
+pub extern "C" fn calls_link(
+    n: u32,
+    k: u32,
+    b: u32,
+    uid: u32,
+    level: u32,
+    p: u32,
+    q: u32,
+    room: &mut [u32],
+) -> u32
+    ensures number { λ r. ⌜ r ≡ told (ofLink (linkBetween (hallOf n k b) uid level p q)) (now (room .entry)) ⌝ }
+    ensures room { λ _. ⌜ now (room .exit) ≡ written (ofLink (linkBetween (hallOf n k b) uid level p q)) (now (room .entry)) ⌝ }
+{
+    let a = hall::link_between(Hall { n, k, b }, uid, level, p, q);
+    let words = [a.from, a.to];
+    tell(a.refusal, &words, room)
+}
+
+#[no_mangle]
+pub extern "C" fn calls_check(n: u32, k: u32, b: u32, table: &[u8]) -> u32
+    ensures { λ r. ⌜ r ≡ checkOf (hallOf n k b) (now (table .entry)) .refusal ⌝ }
+{
+    ports::check_table(Hall { n, k, b }, table).refusal
+}
+
+#[no_mangle]
+pub extern "C" fn calls_check_place(n: u32, k: u32, b: u32, table: &[u8]) -> u32
+    ensures { λ r. ⌜ r ≡ checkOf (hallOf n k b) (now (table .entry)) .place ⌝ }
+{
+    ports::check_table(Hall { n, k, b }, table).place
+}
+
+#[no_mangle]
+pub extern "C" fn calls_part(n: u32, k: u32, b: u32, table: &[u8], uid: u32, room: &mut [u8]) -> u32
+    ensures number { λ r. ⌜ r ≡ told (ofPart (hallOf n k b) (now (table .entry)) uid) (now (room .entry)) ⌝ }
+    ensures room { λ _. ⌜ now (room .exit) ≡ written (ofPart (hallOf n k b) (now (table .entry)) uid) (now (room .entry)) ⌝ }
+{
+    let number = ports::part_refusal(Hall { n, k, b }, table, uid);
+    let part = ports::part_of(Hall { n, k, b }, table, uid);
+    tell_bytes(number, part, room)
+}
+
+#[no_mangle]
+pub extern "C" fn calls_route(n: u32, k: u32, b: u32, x: u32, y: u32, room: &mut [u32]) -> u32
+    ensures number { λ r. ⌜ r ≡ told (ofRoute (routeBetween (hallOf n k b) x y)) (now (room .entry)) ⌝ }
+    ensures room { λ _. ⌜ now (room .exit) ≡ written (ofRoute (routeBetween (hallOf n k b) x y)) (now (room .entry)) ⌝ }
+{
+    let a = route::route_between(Hall { n, k, b }, x, y);
+    let words = a.uids;
+    tell(a.refusal, &words, room)
+}
+
+#[no_mangle]
+pub extern "C" fn calls_route_links(n: u32, k: u32, b: u32, x: u32, y: u32) -> u32
+    ensures { λ r. ⌜ r ≡ routeBetween (hallOf n k b) x y .links ⌝ }
+{
+    route::route_between(Hall { n, k, b }, x, y).links
+}
