@@ -1,2 +1,1 @@
--- The laws.
-pub mod Told
+-- The laws stand in the crates that are called.

@@ -1,3 +1,2 @@
 -- What an exported call returns and leaves in its room.
-pub mod Rooms
 pub mod Outcomes

@@ -10,7 +10,7 @@ use Rattle.hall.specs.declared.Neighbour.{Neighbour}
 use Rattle.hall.specs.declared.Link.{Link}
 use Rattle.route.specs.declared.Route.{Route}
 use Rattle.ports.specs.Answers.{partRefusal, partOf}
-use Rattle.calls.specs.Rooms.{Outcome}
+use Rattle.hall.specs.Rooms.{Outcome}
 
 -- the hall of three numbers
 abbrev pub hallOf : ℕ → ℕ → ℕ → Hall

@@ -6,7 +6,7 @@ ghost use lib.ListN.{length, drop};
 ghost use Rattle.hall.specs.Answers.{sizesOf, uidOf, tupleOf, cellAround, neighbourOf, linkBetween};
 ghost use Rattle.route.specs.Answers.{routeBetween};
 ghost use Rattle.ports.specs.Answers.{checkOf};
-ghost use Rattle.calls.specs.Rooms.{told, written};
+ghost use Rattle.hall.specs.Rooms.{told, written};
 ghost use Rattle.calls.specs.Outcomes.{hallOf, ofSizes, ofUid, ofTuple, ofCell, ofNeighbour, ofLink, ofRoute, ofPart};
 use hall::Hall;
 use hall::refusals::SHORT_ROOM;

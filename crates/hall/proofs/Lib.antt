@@ -6,3 +6,4 @@ pub mod Tuples
 pub mod Growth
 pub mod Wide
 pub mod Asks
+pub mod Told

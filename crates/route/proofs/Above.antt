@@ -1,8 +1,8 @@
 -- The links of a route above level b: they see of a server its DCell of level b alone, since near and far ends see no more.
-use mathlib.Core.Path.{_≡_, refl, sym, _∙_, ap, ap₂}
-use mathlib.Core.Bool.{Bool, true, false, true≢false, not}
+use mathlib.Core.Path.{_≡_, refl, sym, _∙_, ap}
+use mathlib.Core.Bool.{Bool, true, false, not}
 use mathlib.Core.List.{List, [], _∷_, _++_, cons≢nil, head-eq-of-cons-eq, tail-eq-of-cons-eq}
-use Prim.Native.Nat.{ℕ, zero, suc, _+_, _-_, _*_, _^_, _<_, _≤_}
+use Prim.Native.Nat.{ℕ, zero, suc, _+_, _-_, _^_, _≤_}
 use native.Mathlib.Nat.{le-trans}
 use native.Mathlib.Omega.{arith}
 use lib.Dec.{ltb}
@@ -11,7 +11,6 @@ use lib.ListN.{length, length-append}
 use borrow.Author.Tests.{ltb-true, ltb-false, lt-ltb, le-ltb}
 use Rattle.hall.specs.Cells.{same, near, far}
 use Rattle.route.specs.Routes.{route, links, hops, above, ofLevel, select}
-use Rattle.route.specs.Walks.{Each}
 use Rattle.combine.proofs.Tests.{cases}
 use Rattle.hall.proofs.Cells.{Crossing, crossing, same-left, same-up, same-mono, apart-mono, near-left, far-left}
 use Rattle.route.proofs.Lists.{each-append, each-map, select-append, select-keep, select-drop, select-none, select-select, append-not-nil}
@@ -36,7 +35,7 @@ unfolding above
 above-apart n b j x y h e = rw (le-ltb j b h, e, above)
 
 module _ (n b : ℕ) where
-  -- (a) the links of the route that leave their DCell of level b
+  -- the links of the route that leave their DCell of level b
   leaves : ℕ → ℕ → Bool
   leaves u v = not (same n b u v)
 
@@ -61,7 +60,7 @@ module _ (n b : ℕ) where
   unfolding leaves
   above-hops l x y s = above-links l x y s ∙ ap (select leaves) (links-hops n l x y s)
 
-  -- (b) it sees of x its DCell of level b alone
+  -- it sees of x its DCell of level b alone
   pub above-left : (l x z y : ℕ) → same n b x z ≡ true → above n b l z y ≡ above n b l x y
   above-left zero x z y e = above-low n b zero z y (omega arith) ∙ sym (above-low n b zero x y (omega arith))
   above-left (suc j) x z y e = cases (ltb j b)
@@ -78,7 +77,7 @@ module _ (n b : ℕ) where
         above-left j x z (near n j x y) e,
       )))
 
-  -- (d) where it is empty, y is in the DCell of level b of x
+  -- where it is empty, y is in the DCell of level b of x
   pub above-nil : (l x y : ℕ) → same n l x y ≡ true → above n b l x y ≡ [] → same n b x y ≡ true
   above-nil zero x y s e = same-mono n x y (omega arith) s
   above-nil (suc j) x y s e = cases (ltb j b)
@@ -94,7 +93,7 @@ module _ (n b : ℕ) where
       (λ q. above-low n b (suc j) x y (ltb-true j b q))
       (λ q. above-same n b j x y (same-mono n x y (ltb-false j b q) s) ∙ above-none j x y s)
 
-  -- (c) its first link starts in the DCell of level b of x; the rest is that of its far end
+  -- its first link starts in the DCell of level b of x; the rest is that of its far end
   abbrev Next : ℕ → ℕ → ℕ → ℕ → ℕ → List (ℕ × ℕ) → Type 0
   Next l x y u v r = (same n b x u ≡ true) × (same n l x v ≡ true) × (above n b l v y ≡ r)
 
@@ -135,7 +134,7 @@ module _ (n b : ℕ) where
       next-joined j x y h c u v r (λ t. above-next j x (near n j x y) (c .here) u v t)
       (above n b j x (near n j x y)) refl (sym (above-apart n b j x y h k) ∙ e)))
 
-  -- (e) how many they are
+  -- how many they are
   pub above-length : (l x y : ℕ) → b ≤ l → length (above n b l x y) + 1 ≤ 2 ^ (l - b)
   above-length zero x y h = rw (above-low n b zero x y (omega arith)) (omega (arith, pow-pos (0 - b)))
   above-length (suc j) x y h = cases (ltb j b)

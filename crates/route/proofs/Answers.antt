@@ -1,33 +1,31 @@
 -- What the calls answer, by cases of what they ask: the hall, then x, then y.
 use mathlib.Core.Path.{_≡_, refl, sym, _∙_, ap}
-use mathlib.Core.Bool.{Bool, true, false}
-use mathlib.Core.List.{List, [], _∷_, _++_}
+use mathlib.Core.Bool.{true, false}
+use mathlib.Core.List.{List}
 use Prim.Native.Nat.{ℕ, zero, suc, _+_, _-_, _^_, _<_, _≤_}
 use native.Mathlib.Nat.{zero-add, zero-mul}
 use native.Mathlib.Omega.{arith}
 use lib.Dec.{ltb}
 use lib.Pow.{pow-mono}
-use lib.ListN.{length, getD, drop, replicate, length-replicate}
+use lib.ListN.{length, getD, drop, replicate}
 use lib.Seq.{sets, sets-eq}
 use borrow.Author.Tests.{lt-ltb, le-ltb}
-use Rattle.combine.specs.Tests.{pick, both}
 use Rattle.combine.specs.Lists.{upTo}
-use Rattle.combine.proofs.Tests.{cases, never, both-false}
+use Rattle.combine.proofs.Tests.{cases, both-false}
 use Rattle.combine.proofs.Lists.{getD-upTo}
 use Rattle.hall.specs.declared.Hall.{Hall}
 use Rattle.hall.specs.declared.Sizes.{Sizes}
 use Rattle.hall.specs.Refusals.{refusal}
 use Rattle.hall.specs.Cells.{t, same}
-use Rattle.hall.specs.Halls.{places, valid, servers, largest}
+use Rattle.hall.specs.Halls.{places, valid, servers}
 use Rattle.hall.specs.Answers.{sizeAt, sizesOf}
 use Rattle.hall.proofs.Growth.{Valid, valid-known, valid-size, size-at}
 use Rattle.hall.proofs.Links.{hall-same}
-use Rattle.route.specs.declared.Route.{Route}
 use Rattle.route.specs.declared.Crossing.{Crossing}
-use Rattle.route.specs.declared.Crossing.the-variants.{Link, Nothing}
+use Rattle.route.specs.declared.Crossing.the-variants.{Nothing}
 use Rattle.route.specs.Routes.{route}
 use Rattle.route.specs.Answers.{longest, padded, inHall, noRoute, routeBetween, firstAbove, firstLink}
-use Rattle.route.specs.Filling.{perSwitch, Sized, Inside, Room}
+use Rattle.route.specs.Filling.{perSwitch, Inside, Room}
 use Rattle.route.proofs.Routes.{route-walk, route-length}
 use Rattle.route.proofs.Lists.{walk-starts}
 
@@ -78,7 +76,7 @@ whole-hall h sizes x y G hx hy = record {
   hall = record {
     sized = λ i l. rw (G .at-zero) (G .at i l);
     positive = rw (G .at-zero) (omega (arith, G .known .n-low));
-    levels = G .known .k-high;
+    levels = omega (arith, G .known .k-high);
     small = rw (G .at-zero) (valid-size h (G .known) (h .k) (omega arith));
   };
   low = omega arith;

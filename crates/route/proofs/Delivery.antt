@@ -1,7 +1,7 @@
 -- With every port up each hop leaves one less to go, and at first fewer than 2 ^ suc l are left: the links above b are the
 -- same from each server of a DCell of level b, and behind the first of them the rest is left.
 use mathlib.Core.Path.{_≡_, refl, sym, _∙_, ap}
-use mathlib.Core.Bool.{Bool, true, false}
+use mathlib.Core.Bool.{true}
 use mathlib.Core.List.{List, [], _∷_, _++_}
 use Prim.Native.Nat.{ℕ, zero, suc, _+_, _-_, _*_, _^_, _<_, _≤_}
 use native.Mathlib.Nat.{mul-le-mul-right, le-trans}
@@ -9,7 +9,7 @@ use native.Mathlib.Omega.{arith}
 use lib.Dec.{eqb}
 use lib.Pow.{pow-add}
 use lib.ListN.{length}
-use borrow.Author.Tests.{eqb-true, eqb-false, eq-eqb, ne-eqb}
+use borrow.Author.Tests.{eqb-true, eqb-false, eq-eqb}
 use Rattle.hall.specs.Cells.{same}
 use Rattle.route.specs.Routes.{above}
 use Rattle.route.specs.Delivery.{hopBy, hop, passed, left, Local}

@@ -1,19 +1,18 @@
 -- A route is filled in as it recurses: its second part is stored behind its first, and stores in a row join as the lists do.
-use mathlib.Core.Path.{_≡_, refl, sym, _∙_, ap, ap₂, subst}
+use mathlib.Core.Path.{_≡_, refl, sym, _∙_, ap, ap₂}
 use mathlib.Core.Bool.{Bool, true, false}
 use mathlib.Core.List.{List, [], _∷_, _++_}
-use Prim.Native.Nat.{ℕ, zero, suc, _+_, _-_, _*_, _/_, _%_, _^_, _<_, _≤_}
-use native.Mathlib.Nat.{add-zero, add-suc, suc-add}
+use Prim.Native.Nat.{ℕ, suc, _+_, _-_, _*_, _/_, _%_, _^_, _<_, _≤_}
+use native.Mathlib.Nat.{add-zero, add-suc, suc-add, mul-zero, mul-one}
 use native.Mathlib.Numerals.{add-one}
 use native.Mathlib.Omega.{arith}
 use lib.Dec.{eqb}
-use lib.Pow.{pow-pos}
 use lib.ListN.{length, getD, set, length-append}
 use lib.Seq.{sets, set-getD, getD-set-other}
-use borrow.Author.Tests.{eq-eqb, ne-eqb}
-use Rattle.hall.specs.Cells.{t, same, port, near, far}
+use Rattle.combine.specs.Tests.{pick}
+use Rattle.combine.proofs.Tests.{cases}
+use Rattle.hall.specs.Cells.{same, port}
 use Rattle.route.specs.Routes.{route}
-use Rattle.route.specs.Answers.{longest}
 use Rattle.route.specs.Filling.{inSwitch, perSwitch, Inside, Room}
 use Rattle.route.proofs.Routes.{route-same, route-apart, route-length}
 use Rattle.route.proofs.Inside.{inside-same, down, Parts, parts-below, inside-below, port-in}
@@ -35,22 +34,31 @@ stored-join u v w r s q at m next eq em ev en ew = (
   rw (eq, ew, ev, em) (sets-append u at r s),
 )
 
--- the two ways in one DCell0
-pub put-one : (u : List ℕ) (x y at : ℕ) → x ≡ y → getD u (at + 1) 0 ≡ 0
-    → (at + 1 ≡ at + length (inSwitch x y)) × (set (set u at x) (at + 1) 0 ≡ sets u at (inSwitch x y))
-unfolding inSwitch
-put-one u x y at e z =
-    let w : getD (set u at x) (at + 1) 0 ≡ 0 = getD-set-other u at (at + 1) x 0 (λ q. omega arith) ∙ z in
-    rw (eq-eqb x y e) (refl, ap (set (set u at x) (at + 1)) (sym w) ∙ set-getD (set u at x) (at + 1) 0)
+pub times-links : (b : Bool) (y links : ℕ) → links ≡ pick b 0 1 → y * links ≤ y
+times-links true y links e = rw (e, mul-zero y) (omega arith)
+times-links false y links e = rw (e, mul-one y) (omega arith)
 
-pub put-two : (u : List ℕ) (x y at : ℕ) → (x ≡ y → ⊥)
-    → (at + 1 + 1 ≡ at + length (inSwitch x y)) × (set (set u at x) (at + 1) y ≡ sets u at (inSwitch x y))
+-- the two ways in one DCell0: where x and y are one server the place behind it holds 0 as it did
+pub put-links : (u : List ℕ) (x y at links : ℕ) → links ≡ pick (eqb x y) 0 1 → getD u (at + 1) 0 ≡ 0
+    → (at + 1 + links ≡ at + length (inSwitch x y)) × (set (set u at x) (at + 1) (y * links) ≡ sets u at (inSwitch x y))
 unfolding inSwitch
-put-two u x y at d = rw (ne-eqb x y d) (omega arith, rw (add-one at))
+put-links u x y at links e z = cases (eqb x y)
+    (λ q.
+    let l : links ≡ 0 = e ∙ rw q in
+    let w : getD (set u at x) (at + 1) 0 ≡ 0 = getD-set-other u at (at + 1) x 0 (λ k. omega arith) ∙ z in
+    let m : y * links ≡ getD (set u at x) (at + 1) 0 = rw (l, w) (mul-zero y) in
+    rw (q, l) (omega arith, rw (← l, m) (set-getD (set u at x) (at + 1) 0)))
+    (λ q.
+    let l : links ≡ 1 = e ∙ rw q in
+    rw (q, l) (omega arith, rw (mul-one y, add-one at)))
 
-pub route-low : (n level x y : ℕ) → level ≡ 0 → route n level x y ≡ inSwitch x y
+route-low : (n level x y : ℕ) → level ≡ 0 → route n level x y ≡ inSwitch x y
 unfolding route inSwitch
 route-low n level x y e = rw e
+
+pub put-filled : (n level x y at m : ℕ) (u v : List ℕ) → level ≡ 0 → (m ≡ at + length (inSwitch x y)) × (v ≡ sets u at (inSwitch x y))
+    → (m ≡ at + length (route n level x y)) × (v ≡ sets u at (route n level x y))
+put-filled n level x y at m u v e p = rw (route-low n level x y e) p
 
 -- a route of the DCell is not longer than there is room for
 pub inside-shared : (S : List ℕ) (level first from to : ℕ) → Inside S level first from to → same (perSwitch S) level (first + from) (first + to) ≡ true

@@ -1,13 +1,12 @@
 -- The first link of a route above level b is the head of the links above b, since a link's level is above b exactly where it leaves
 -- its DCell of level b; and it is found from the top level down, since the links of the first part of a join come first.
-use mathlib.Core.Path.{_≡_, refl, sym, _∙_, ap}
+use mathlib.Core.Path.{_≡_, refl, sym, _∙_, ap, ap₂}
 use mathlib.Core.Bool.{Bool, true, false, not}
 use mathlib.Core.List.{List, [], _∷_, _++_}
-use Prim.Native.Nat.{ℕ, zero, suc, _+_, _<_, _≤_}
+use Prim.Native.Nat.{ℕ, zero, suc, _<_, _≤_}
 use native.Mathlib.Omega.{arith}
 use lib.Dec.{ltb}
 use borrow.Author.Tests.{ltb-true}
-use Rattle.combine.specs.Tests.{pick}
 use Rattle.combine.proofs.Tests.{cases}
 use Rattle.hall.specs.Cells.{same, near, far, neighbour, lowest}
 use Rattle.hall.proofs.Cells.{crossing}
@@ -16,11 +15,11 @@ use Rattle.route.specs.declared.Crossing.the-variants.{Link, Nothing}
 use Rattle.route.specs.Routes.{route, links, hops, levelOf, select, above}
 use Rattle.route.specs.Answers.{firstAmong, firstAbove}
 use Rattle.route.specs.Walks.{Each, LinkOf}
-use Rattle.route.proofs.Lists.{each-map, each-select, select-keep, select-drop, select-cong}
+use Rattle.route.proofs.Lists.{each-map, each-select, select-cong}
 use Rattle.route.proofs.Lowest.{lowest-fits, lowest-only, lowest-above}
 use Rattle.route.proofs.Routes.{Within, links-stay, links-hops}
 use Rattle.route.proofs.Recursion.{route-joined}
-use Rattle.route.proofs.Above.{above-low, above-same, above-apart, above-hops, above-nil}
+use Rattle.route.proofs.Above.{above-low, above-same, above-apart, above-hops}
 
 -- the first of some links with its level, or what is said where there is none
 unfoldable pub headOr : ℕ → ℕ → List (ℕ × ℕ) → Crossing → Crossing
@@ -86,6 +85,26 @@ module _ (n b l : ℕ) where
       → firstAbove n b l x y ≡ Link u v (lowest n l u v)
   unfolding headOr
   first-some x y u v r s e = first-head x y s ∙ ap (λ (r : List (ℕ × ℕ)). headOr n l r Nothing) e
+
+  pub first-nothing : (x y : ℕ) → same n l x y ≡ true → firstAbove n b l x y ≡ Nothing → above n b l x y ≡ []
+  first-nothing x y s e = go (above n b l x y) refl
+    where
+      go : (a : List (ℕ × ℕ)) → above n b l x y ≡ a → above n b l x y ≡ []
+      go [] q = q
+      go (m ∷ r) q = let f = first-some x y (m .0) (m .1) r s q in let z : _≡_ {A = ℕ} 0 1 = cc in absurd (omega arith)
+
+  pub first-link : (x y u v i : ℕ) → same n l x y ≡ true → firstAbove n b l x y ≡ Link u v i
+      → (r : List (ℕ × ℕ)) × (above n b l x y ≡ (u, v) ∷ r) × (i ≡ lowest n l u v)
+  first-link x y u v i s e = go (above n b l x y) refl
+    where
+      go : (a : List (ℕ × ℕ)) → above n b l x y ≡ a → (r : List (ℕ × ℕ)) × (above n b l x y ≡ (u, v) ∷ r) × (i ≡ lowest n l u v)
+      go [] q = let f = first-none x y s q in let z : _≡_ {A = ℕ} 0 1 = cc in absurd (omega arith)
+      go (m ∷ r) q =
+          let f = first-some x y (m .0) (m .1) r s q in
+          let eu : m .0 ≡ u = cc in
+          let ev : m .1 ≡ v = cc in
+          let ei : lowest n l (m .0) (m .1) ≡ i = cc in
+          (r, q ∙ ap (λ (k : ℕ × ℕ). k ∷ r) (ap₂ (λ (a c : ℕ). (a, c)) eu ev), sym ei ∙ rw (eu, ev))
 
 -- from the top level down: what is found so far stays the answer where x and the goal are in one sub-cell, and where they are not it
 -- is the link between the sub-cells, the near end being the goal from then on

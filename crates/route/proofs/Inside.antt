@@ -1,19 +1,18 @@
 -- A DCell by its first uid and the places inside it: a place over the size of a sub-cell is the sub-cell, its remainder the place in
 -- there, and the link between two sub-cells is at their ports.
-use mathlib.Core.Path.{_≡_, refl, sym, _∙_, ap, ap₂, subst}
-use mathlib.Core.Bool.{Bool, true, false}
-use mathlib.Core.List.{List, [], _∷_, _++_}
-use Prim.Native.Nat.{ℕ, zero, suc, _+_, _-_, _*_, _/_, _%_, _^_, _<_, _≤_}
+use mathlib.Core.Path.{_≡_, sym, _∙_, ap}
+use mathlib.Core.Bool.{true, false}
+use mathlib.Core.List.{List}
+use Prim.Native.Nat.{ℕ, suc, _+_, _-_, _*_, _/_, _%_, _<_, _≤_}
 use native.Mathlib.Nat.{mod-lt, div-add-mod', div-lt-iff-lt-mul, mul-le-mul-right}
 use native.Mathlib.Omega.{arith}
 use lib.Arith.{digits-div}
 use lib.ListN.{getD}
 use Rattle.combine.proofs.Tests.{cases}
-use Rattle.hall.specs.Cells.{t, cell, same, sub, port, end, near, far}
-use Rattle.hall.specs.Halls.{largest}
-use Rattle.hall.proofs.Place.{place-cell, place-up, place-sub, port-fits}
+use Rattle.hall.specs.Cells.{t, cell, same, sub, port, near, far}
+use Rattle.hall.proofs.Place.{place-cell, place-sub, port-fits}
 use Rattle.hall.proofs.Cells.{same-eq, eq-same, end-cells, t-pos}
-use Rattle.route.specs.Filling.{perSwitch, Sized, Inside}
+use Rattle.route.specs.Filling.{perSwitch, Inside}
 
 -- two places inside one DCell
 pub inside-same : (n i number a c : ℕ) → a < t n i → c < t n i → same n i (number * t n i + a) (number * t n i + c) ≡ true

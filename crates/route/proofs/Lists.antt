@@ -1,12 +1,11 @@
 -- Lists of servers and links: what holds of two lists, one after the other, holds of their join.
-use mathlib.Core.Path.{_≡_, refl, sym, _∙_, ap}
+use mathlib.Core.Path.{_≡_, refl, _∙_, ap}
 use mathlib.Core.Bool.{Bool, true, false}
 use mathlib.Core.List.{List, [], _∷_, _++_, cons≢nil}
-use Prim.Native.Nat.{ℕ, zero, suc, _+_, _≤_, _<_}
+use Prim.Native.Nat.{ℕ, _+_, _≤_}
 use native.Mathlib.Omega.{arith}
-use lib.ListN.{length, length-append}
+use lib.ListN.{length}
 use Rattle.combine.proofs.Tests.{cases}
-use Rattle.hall.specs.Cells.{same, neighbour}
 use Rattle.route.specs.Routes.{select, hops}
 use Rattle.route.specs.Walks.{Each, Joined, switch, link, Walk, done, step}
 

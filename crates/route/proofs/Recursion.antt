@@ -1,19 +1,17 @@
 -- The route is the one that the text recurses to: x alone, x and y, or by the one link at the lowest level that holds both; a
 -- level above the lowest changes nothing, since there x and y are in one sub-cell.
-use mathlib.Core.Path.{_≡_, refl, sym, _∙_, ap, ap₂}
-use mathlib.Core.Bool.{Bool, true, false, not}
+use mathlib.Core.Path.{_≡_, sym, _∙_, ap, ap₂}
+use mathlib.Core.Bool.{true, false}
 use mathlib.Core.List.{List, [], _∷_, _++_}
-use Prim.Native.Nat.{ℕ, zero, suc, _+_, _-_, _*_, _^_, _<_, _≤_}
-use native.Mathlib.Nat.{add-zero, add-suc, le-trans}
+use Prim.Native.Nat.{ℕ, zero, suc, _+_, _-_, _^_, _<_, _≤_}
+use native.Mathlib.Nat.{add-zero, add-suc}
 use native.Mathlib.Omega.{arith}
-use lib.Pow.{pow-pos}
 use lib.ListN.{length}
-use Rattle.combine.proofs.Tests.{cases}
-use Rattle.hall.specs.Cells.{same, near, far, neighbour, lowest}
-use Rattle.hall.proofs.Cells.{Crossing, crossing, same-refl, same-mono}
+use Rattle.hall.specs.Cells.{same, near, far, lowest}
+use Rattle.hall.proofs.Cells.{crossing, same-refl, same-mono}
 use Rattle.route.specs.Routes.{route, links, hops, levelOf, ofLevel, select, above}
-use Rattle.route.specs.Walks.{Each, LinkOf, Walk, done, step}
-use Rattle.route.proofs.Lists.{each-append, each-map, select-none, hops-length}
+use Rattle.route.specs.Walks.{Each, LinkOf}
+use Rattle.route.proofs.Lists.{each-append, each-map, select-none, hops-length, walk-starts, walk-ends}
 use Rattle.route.proofs.Lowest.{lowest-same, lowest-apart, lowest-zero, lowest-fits, lowest-holds, lowest-least}
 use Rattle.route.proofs.Routes.{Within, route-here, route-step, route-same, route-apart, route-walk, route-stays, route-length, links-ind, links-stay, links-hops}
 use Rattle.route.proofs.Counts.{not-above, route-of-level}
@@ -74,6 +72,13 @@ module _ (n : ℕ) where
   pub route-joined : (l x y : ℕ) → same n l x y ≡ true → Each (λ e. LinkOf n (levelOf n l e) (e .0) (e .1)) (hops (route n l x y))
   route-joined l x y s = rw (← links-hops n l x y s) (links-lowly l x y s)
 
+  -- it starts at x and ends at y
+  pub route-starts : (l x y : ℕ) → same n l x y ≡ true → (q : List ℕ) × (route n l x y ≡ x ∷ q)
+  route-starts l x y s = walk-starts n (route-walk n l x y s)
+
+  pub route-ends : (l x y : ℕ) → same n l x y ≡ true → (q : List ℕ) × (route n l x y ≡ q ++ (y ∷ []))
+  route-ends l x y s = walk-ends n (route-walk n l x y s)
+
   -- with l the lowest level that holds both: the route stays in that DCell, and has at most 2 ^ (l + 1) - 1 links, at most
   -- 2 ^ (l - i) of level i, none above l
   pub route-stays-lowest : (k x y : ℕ) → same n k x y ≡ true → Each (λ z. same n (lowest n k x y) x z ≡ true) (route n k x y)
@@ -100,7 +105,6 @@ module _ (n : ℕ) where
   pub links-none-above : (k x y : ℕ) → same n k x y ≡ true → (i : ℕ) → lowest n k x y < i
       → select (ofLevel n i) (hops (route n k x y)) ≡ []
   links-none-above k x y s i h =
-      let l : ℕ = lowest n k x y in
       let o = lowest-holds n k x y s in
       rw (route-lowest k x y s, ← links-hops n (lowest n k x y) x y o)
       (select-none (ofLevel n i) (links n (lowest n k x y) x y)

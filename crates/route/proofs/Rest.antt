@@ -1,14 +1,13 @@
 -- The rest of a route from any server on it is the route from that server: a server before the link of a join has the same
 -- near and far end, one behind it is in the sub-cell of the goal.
-use mathlib.Core.Path.{_≡_, refl, sym, _∙_, ap, ap₂}
-use mathlib.Core.Bool.{Bool, true, false, true≢false, not}
-use mathlib.Core.List.{List, [], _∷_, _++_, cons≢nil}
-use Prim.Native.Nat.{ℕ, zero, suc, _+_, _<_, _≤_}
+use mathlib.Core.Path.{_≡_, sym, _∙_}
+use mathlib.Core.Bool.{true}
+use mathlib.Core.List.{List, [], _∷_, _++_}
+use Prim.Native.Nat.{ℕ, zero, suc}
 use lib.Dec.{eqb}
 use borrow.Author.Tests.{eqb-true, eqb-false}
 use Rattle.hall.specs.Cells.{same, near, far}
 use Rattle.route.specs.Routes.{route}
-use Rattle.route.specs.Walks.{Each}
 use Rattle.combine.proofs.Tests.{cases}
 use Rattle.hall.proofs.Cells.{crossing, same-left, near-left, far-left}
 use Rattle.route.proofs.Lists.{each-at, split-append, append-not-nil}

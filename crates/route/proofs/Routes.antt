@@ -1,8 +1,8 @@
 -- A route is a walk that stays in its DCell and is short, by one induction over the four ways in which a route is made.
-use mathlib.Core.Path.{_≡_, refl, sym, _∙_, ap, ap₂, subst}
-use mathlib.Core.Bool.{Bool, true, false, true≢false}
+use mathlib.Core.Path.{_≡_, refl, sym}
+use mathlib.Core.Bool.{true, false}
 use mathlib.Core.List.{List, [], _∷_, _++_}
-use Prim.Native.Nat.{ℕ, zero, suc, _+_, _-_, _*_, _^_, _<_, _≤_}
+use Prim.Native.Nat.{ℕ, zero, suc, _^_, _≤_}
 use native.Mathlib.Omega.{arith}
 use lib.Dec.{eqb}
 use lib.ListN.{length, length-append}
@@ -74,7 +74,7 @@ module _ (n : ℕ) where
         rw (route-apart n j x y q, links-apart n j x y q)
         (joined j x y _ _ _ _ c (route-ind j x (near n j x y) (c .here)) (route-ind j (far n j x y) y (c .there))))
 
-  -- L3: a route is a walk, stays, is short
+  -- a route is a walk from x to y, stays in the DCell, and is short
   pub route-walk : (l x y : ℕ) → same n l x y ≡ true → Walk n l x y (route n l x y)
   route-walk = route-ind (λ l x y r _. Walk n l x y r)
       (λ x. done)

@@ -1,9 +1,9 @@
 -- The search from the top level down for the first link above b: what is found so far, or the first link above b to the goal so far, is
 -- the answer at every turn.
-use mathlib.Core.Path.{_≡_, refl, sym, _∙_, ap, subst}
-use mathlib.Core.Bool.{Bool, true, false}
+use mathlib.Core.Path.{_≡_, sym, _∙_, ap, subst}
+use mathlib.Core.Bool.{true}
 use mathlib.Core.List.{List}
-use Prim.Native.Nat.{ℕ, zero, suc, _+_, _-_, _*_, _/_, _%_, _<_, _≤_}
+use Prim.Native.Nat.{ℕ, suc, _+_, _-_, _*_, _/_, _%_, _<_, _≤_}
 use native.Mathlib.Nat.{zero-add}
 use native.Mathlib.Numerals.{add-one}
 use native.Mathlib.Omega.{arith}
@@ -99,7 +99,6 @@ module _ (S : List ℕ) (b k x y : ℕ) where
           (first + from / getD S (j - 1) 0 * getD S (j - 1) 0) (from % getD S (j - 1) 0) out (j - 1)
       unfolding P
       search-apart d out in′ eo ei =
-          let s = getD S (j - 1) 0 in
           let nw : near (perSwitch S) (j - 1) (first + from) (first + to) ≡ first + from / getD S (j - 1) 0 * getD S (j - 1) 0 + out
           = P .near-is ∙ ap (λ (i : ℕ). first + from / getD S (j - 1) 0 * getD S (j - 1) 0 + i) (sym eo) in
           let fz : far (perSwitch S) (j - 1) (first + from) (first + to) ≡ first + to / getD S (j - 1) 0 * getD S (j - 1) 0 + in′

@@ -1,6 +1,5 @@
 -- What each public call about routes answers.
 -- Sections "Route without failures", "One forwarding step" (4) and "Refusal numbers".
-use mathlib.Core.Bool.{Bool, true, false}
 use mathlib.Core.List.{List, [], _∷_, _++_}
 use Prim.Native.Nat.{ℕ, _-_}
 use lib.Dec.{ltb}

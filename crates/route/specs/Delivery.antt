@@ -1,7 +1,7 @@
 -- What is left to go for a packet with every port up: local distances, and one for each link above b between them.
 -- Section "One forwarding step", steps 4 to 8, for any local next hop and distance.
 use mathlib.Core.Path.{_≡_}
-use mathlib.Core.Bool.{Bool, true, false}
+use mathlib.Core.Bool.{true}
 use mathlib.Core.List.{List, [], _∷_}
 use Prim.Native.Nat.{ℕ, zero, suc, _+_, _^_, _≤_, _<_}
 use lib.Dec.{eqb}

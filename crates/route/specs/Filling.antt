@@ -7,7 +7,7 @@ use lib.Dec.{eqb}
 use lib.ListN.{getD}
 use Rattle.combine.specs.Tests.{pick}
 use Rattle.hall.specs.Cells.{t}
-use Rattle.hall.specs.Halls.{largest}
+use Rattle.hall.specs.Halls.{places, largest}
 use Rattle.route.specs.Answers.{longest}
 
 -- the route between two servers of one DCell0
@@ -22,7 +22,7 @@ perSwitch sizes = getD sizes 0 0
 pub record Sized (sizes : List ℕ) (k : ℕ) : Type 0 where
   pub sized : (i : ℕ) → i ≤ k → getD sizes i 0 ≡ t (perSwitch sizes) i
   pub positive : 0 < perSwitch sizes
-  pub levels : k ≤ 3
+  pub levels : k < places
   pub small : t (perSwitch sizes) k ≤ largest
 
 -- the DCell of a level of such a hall, by its first uid, and two places inside it

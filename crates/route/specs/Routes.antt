@@ -1,6 +1,6 @@
 -- The route without failures, its links and their levels, over the level; n is the number of servers on a mini-switch.
 -- Section "Route without failures".
-use mathlib.Core.Bool.{Bool, true, false, not}
+use mathlib.Core.Bool.{Bool, not}
 use mathlib.Core.List.{List, [], _∷_, _++_}
 use Prim.Native.Nat.{ℕ, zero, suc}
 use lib.Dec.{eqb, ltb}

@@ -1,7 +1,7 @@
 -- What the laws say of a list of servers: who is joined to whom, a walk over links, all of its members, none of them twice.
 -- Section "The hall and its numbers".
 use mathlib.Core.Path.{_≡_}
-use mathlib.Core.Bool.{Bool, true, false}
+use mathlib.Core.Bool.{true}
 use mathlib.Core.List.{List, [], _∷_}
 use Prim.Native.Nat.{ℕ, zero, suc, _<_}
 use Rattle.hall.specs.Cells.{same, neighbour}

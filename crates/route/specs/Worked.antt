@@ -2,13 +2,12 @@
 -- Section "Bench cases".
 use mathlib.Core.Path.{_≡_, refl}
 use mathlib.Core.List.{List, [], _∷_, map}
-use Prim.Native.Nat.{ℕ, zero, suc}
+use Prim.Native.Nat.{ℕ}
 use Rattle.hall.specs.Cells.{t, cell, same, sub, port, end, near, far, lowest}
 use Rattle.hall.specs.Halls.{nFits, kFits, bFits, valid, servers}
 use Rattle.hall.specs.Refusals.{refusal}
-use Rattle.hall.specs.declared.Hall.{Hall}
-use Rattle.route.specs.declared.Crossing.the-variants.{Link, Nothing}
-use Rattle.route.specs.Routes.{route, hops, above}
+use Rattle.route.specs.declared.Crossing.the-variants.{Link}
+use Rattle.route.specs.Routes.{route, hops}
 use Rattle.route.specs.Answers.{padded, inHall, routeBetween, firstAmong, firstAbove, firstLink}
 
 -- n = 2, k = 2, 5 to 11; its third server is [0,0,1]

@@ -2,7 +2,9 @@
 ghost use mathlib.Core.Path.{_≡_};
 ghost use Prim.Native.Nat.{_+_};
 ghost use lib.ListN.{length, replicate};
+ghost use lib.Dec.{eqb};
 ghost use lib.Seq.{sets};
+ghost use Rattle.combine.specs.Tests.{pick};
 ghost use Rattle.hall.specs.Cells.{port};
 ghost use Rattle.route.specs.Routes.{route};
 ghost use Rattle.route.specs.Answers.{longest, noRoute, routeBetween, firstAbove, firstLink};
@@ -36,20 +38,27 @@ fn port_to(p: u32, q: u32) -> u32
     q
 }
 
+// The links between two servers of one DCell0: 0 where they are one, else 1.
+fn links_in_switch(x: u32, y: u32) -> u32
+    ensures { λ r. ⌜ r ≡ pick (eqb x y) 0 1 ⌝ }
+{
+    if x == y {
+        return 0;
+    }
+    1
+}
+
 // Writes the route between two servers of one DCell0 from place `at` on, and answers the place behind it.
 fn put(x: u32, y: u32, uids: &mut [u32; LONGEST], at: usize) -> usize
     requires { ⌜ Room (now uids) 0 at ⌝ }
     ensures next { λ r. ⌜ r ≡ at + length (inSwitch x y) ⌝ }
     ensures filled { λ r. ⌜ now (uids .exit) ≡ sets (now (uids .entry)) at (inSwitch x y) ⌝ }
 {
+    let links = links_in_switch(x, y);
     let next = at + 1;
     uids[at] = x;
-    if x == y {
-        uids[next] = 0;
-        return next;
-    }
-    uids[next] = y;
-    next + 1
+    uids[next] = y * links;
+    next + links as usize
 }
 
 // Writes the route between two places of the DCell that starts at `first`, from place `at` on, and answers the place behind it.
@@ -73,13 +82,21 @@ fn fill(
     let size = sizes[below];
     let p = from / size;
     let q = to / size;
+    let from_inside = from % size;
+    let to_inside = to % size;
     let here = first + p * size;
     if p == q {
-        return fill(sizes, below, here, from % size, to % size, uids, at);
+        return fill(sizes, below, here, from_inside, to_inside, uids, at);
     }
     let there = first + q * size;
-    let middle = fill(sizes, below, here, from % size, port_to(p, q), uids, at);
-    fill(sizes, below, there, port_to(q, p), to % size, uids, middle)
+    let out = port_to(p, q);
+    let into = port_to(q, p);
+    if below == 0 {
+        let middle = put(here + from_inside, here + out, uids, at);
+        return put(there + into, there + to_inside, uids, middle);
+    }
+    let middle = fill(sizes, below, here, from_inside, out, uids, at);
+    fill(sizes, below, there, into, to_inside, uids, middle)
 }
 
 // No place filled in yet.
@@ -108,10 +125,11 @@ fn first_above(sizes: &[u32; 4], b: u32, k: u32, x: u32, y: u32) -> Crossing
         let p = from / size;
         let q = to / size;
         let here = first + p * size;
+        let to_inside = to % size;
         from = from % size;
         if p == q {
             first = here;
-            to = to % size;
+            to = to_inside;
             continue;
         }
         let out = port_to(p, q);

@@ -1,22 +1,21 @@
 -- Laws of the distances of a search, for any adjacency of n servers: each is the least number of links or says that there is none, and the rest follows.
 use mathlib.Core.Path.{_≡_, refl, _∙_, ap, sym}
-use mathlib.Core.Bool.{Bool, true, false}
-use mathlib.Core.List.{List, _++_}
+use mathlib.Core.Bool.{Bool, true}
+use mathlib.Core.List.{List}
 use mathlib.Core.Logic.{_⊎_, inl, inr, ⊎-elim}
-use Prim.Native.Nat.{ℕ, zero, suc, _+_, _-_, _≤_, _<_}
+use Prim.Native.Nat.{ℕ, suc, _+_, _-_, _≤_, _<_}
 use native.Mathlib.Numerals.{add-one}
 use native.Mathlib.Omega.{arith}
-use lib.Dec.{eqb, leb, ltb}
-use lib.ListN.{length, getD, drop}
+use lib.Dec.{eqb, ltb}
+use lib.ListN.{length, getD}
 use lib.Seq.{ext-getD}
-use borrow.Author.Tests.{eqb-true, eqb-false, eq-eqb, le-leb, lt-leb, ltb-true, ltb-false}
-use Rattle.combine.specs.Tests.{both, anyBelow}
-use Rattle.combine.proofs.Tests.{cases, never, any-cong}
-use Rattle.search.specs.Rounds.{leads, new, round, marks, distances}
-use Rattle.search.specs.Reach.{reach, Least, Far, Means, far, near, Walk, Symmetric, Agree}
-use Rattle.search.proofs.Rounds.{length-marks, new-cong, round-still}
-use Rattle.search.proofs.Reach.{reach-origin, reach-none, reach-more, reach-fewer, reach-step, reach-back, LastLink, walk-reach, reach-symmetric, reach-agree}
-use Rattle.search.proofs.Least.{SoFar, unreached, reached, marks-right, marks-mean}
+use borrow.Author.Tests.{eqb-true, eqb-false, ltb-true, ltb-false}
+use Rattle.combine.proofs.Tests.{cases, never}
+use Rattle.search.specs.Rounds.{distances}
+use Rattle.search.specs.Reach.{reach, Far, Means, far, near, Walk, Symmetric, Agree}
+use Rattle.search.proofs.Rounds.{length-marks}
+use Rattle.search.proofs.Reach.{reach-origin, reach-none, reach-step, reach-back, LastLink, walk-reach, reach-symmetric, reach-agree}
+use Rattle.search.proofs.Least.{reached, marks-mean}
 
 -- two numbers that mean the same are one
 pub means-one : (adj : ℕ → ℕ → Bool) (n none o v : ℕ) (other : ℕ → ℕ → Bool) (p w d e : ℕ)

@@ -1,20 +1,19 @@
 -- The marks before round r are the least numbers of links up to r: a server is new in a round exactly where that many links reach it first.
 use mathlib.Core.Path.{_≡_, refl, _∙_, ap, sym}
-use mathlib.Core.Bool.{Bool, true, false}
+use mathlib.Core.Bool.{Bool, false}
 use mathlib.Core.List.{List}
-use mathlib.Core.Logic.{_⊎_, inl, inr, ⊎-elim}
-use Prim.Native.Nat.{ℕ, zero, suc, _+_, _-_, _≤_, _<_}
+use Prim.Native.Nat.{ℕ, zero, suc, _-_, _≤_, _<_}
 use native.Mathlib.Numerals.{add-one}
 use native.Mathlib.Omega.{arith}
 use lib.Dec.{eqb, leb, ltb}
 use lib.ListN.{getD, replicate, length-replicate, getD-replicate}
 use lib.Seq.{getD-set-same, getD-set-other}
 use borrow.Author.Tests.{eq-eqb, ne-eqb, eqb-true, eqb-false, le-leb, lt-leb, ltb-true, ltb-false}
-use Rattle.combine.specs.Tests.{both, either, anyBelow}
+use Rattle.combine.specs.Tests.{both, anyBelow}
 use Rattle.combine.proofs.Tests.{cases, never, any-cong}
 use Rattle.search.specs.Rounds.{leads, new, mark, round, start, marks}
-use Rattle.search.specs.Reach.{reach, Least, Far, Means, far, near}
-use Rattle.search.proofs.Rounds.{mark-new, mark-old, round-at, marks-start}
+use Rattle.search.specs.Reach.{reach, Least, Means, far, near}
+use Rattle.search.proofs.Rounds.{mark-new, mark-old, round-at}
 use Rattle.search.proofs.Reach.{reach-origin, reach-more, reach-fewer}
 use Rattle.search.proofs.Never.{never-reached}
 

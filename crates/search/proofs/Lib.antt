@@ -1,9 +1,11 @@
 -- The laws.
 pub mod Filled
 pub mod Rounds
+pub mod InPlace
 pub mod Reach
 pub mod Never
 pub mod Least
 pub mod Distance
 pub mod Stops
+pub mod Loop
 pub mod Counts

@@ -2,11 +2,11 @@
 use mathlib.Core.Path.{_≡_, refl, _∙_, ap, sym}
 use mathlib.Core.Bool.{Bool, true, false}
 use mathlib.Core.Logic.{_⊎_, inl, inr, ⊎-elim}
-use Prim.Native.Nat.{ℕ, zero, suc, _+_, _-_, _≤_, _<_}
+use Prim.Native.Nat.{ℕ, zero, suc, _+_, _≤_, _<_}
 use native.Mathlib.Nat.{eq-or-lt-of-le}
 use native.Mathlib.Omega.{arith}
 use Rattle.combine.specs.Tests.{pick, both, either, anyBelow}
-use Rattle.combine.proofs.Tests.{cases, any-cong}
+use Rattle.combine.proofs.Tests.{any-cong}
 use Rattle.combine.proofs.Tests as tests
 use Rattle.search.specs.Reach.{reach, Far}
 use Rattle.search.proofs.Reach.{reach-origin, reach-more, reach-fewer}

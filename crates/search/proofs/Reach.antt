@@ -1,15 +1,14 @@
 -- Laws of what so many links reach: more links reach no less, two walks join to one, and a walk can be turned round where each link can.
-use mathlib.Core.Path.{_≡_, refl, _∙_, ap, sym}
+use mathlib.Core.Path.{_≡_, refl, _∙_, sym}
 use mathlib.Core.Bool.{Bool, true, false}
-use mathlib.Core.List.{List, [], _∷_}
+use mathlib.Core.List.{List}
 use mathlib.Core.Logic.{_⊎_, inl, inr, ⊎-elim}
 use Prim.Native.Nat.{ℕ, zero, suc, _+_, _-_, _≤_, _<_}
 use native.Mathlib.Nat.{eq-or-lt-of-le, add-zero, add-suc}
 use native.Mathlib.Omega.{arith}
-use lib.Dec.{eqb}
 use lib.ListN.{length}
 use borrow.Author.Tests.{eq-eqb, eqb-true}
-use Rattle.combine.specs.Tests.{both, either, anyBelow}
+use Rattle.combine.specs.Tests.{both, anyBelow}
 use Rattle.combine.proofs.Tests.{cases, never, both-left, both-right, both-true, both-ways, either-true, either-cases, any-in, any-some, any-cong}
 use Rattle.search.specs.Reach.{reach, Walk, done, step, Symmetric, Agree}
 

@@ -2,19 +2,18 @@
 -- alone what stands behind the servers.
 use mathlib.Core.Path.{_≡_, refl, _∙_, ap, sym}
 use mathlib.Core.Bool.{Bool, true, false}
-use mathlib.Core.List.{List, [], _∷_, _++_, append-nil}
-use mathlib.Core.Logic.{_⊎_, inl, inr, ⊎-elim}
+use mathlib.Core.List.{List, [], _++_, append-nil}
 use Prim.Native.Nat.{ℕ, zero, suc, _+_, _-_, _≤_, _<_}
 use native.Mathlib.Numerals.{add-one}
 use native.Mathlib.Omega.{arith}
-use lib.Dec.{eqb, leb, ltb}
-use lib.ListN.{length, getD, drop, set, replicate, length-append, length-drop, length-set, length-replicate, replicate-append-replicate, drop-of-length-le, List·getD-append}
+use lib.Dec.{leb, ltb}
+use lib.ListN.{length, getD, drop, set, replicate, length-set, length-replicate, replicate-append-replicate, drop-of-length-le, List·getD-append}
 use lib.Seq.{drop-at, set-append-left}
 use borrow.Author.Tests.{eqb-true, lt-leb, ltb-true, ltb-false}
-use Rattle.combine.specs.Tests.{pick, both, anyBelow}
+use Rattle.combine.specs.Tests.{both, anyBelow}
 use Rattle.combine.specs.Lists.{upTo}
 use Rattle.combine.proofs.Tests.{cases, both-left, any-cong, any-each}
-use Rattle.combine.proofs.Lists.{length-upTo, length-up, upTo-cong, up-none, up-same}
+use Rattle.combine.proofs.Lists.{length-up, upTo-cong, up-none, up-same}
 use Rattle.search.specs.Rounds.{leads, new, mark, round, start, marks}
 use Rattle.search.proofs.Filled.{filled-front, filled-behind}
 

@@ -1,15 +1,15 @@
 -- A round in which nobody is new is the last: the next one reads the same servers as reached, so nobody is new in it either.
 use mathlib.Core.Path.{_≡_, refl, _∙_, ap, sym}
-use mathlib.Core.Bool.{Bool, true, false}
+use mathlib.Core.Bool.{Bool, false}
 use Prim.Native.Nat.{ℕ, zero, suc, _+_, _-_, _≤_, _<_}
 use native.Mathlib.Nat.{add-zero, add-suc}
 use native.Mathlib.Omega.{arith}
 use lib.Dec.{eqb, leb}
-use lib.ListN.{length, getD}
+use lib.ListN.{getD}
 use borrow.Author.Tests.{le-leb, lt-leb}
 use Rattle.combine.specs.Tests.{both, anyBelow}
 use Rattle.combine.proofs.Tests.{any-cong}
-use Rattle.search.specs.Rounds.{leads, new, round, marks}
+use Rattle.search.specs.Rounds.{leads, new, marks}
 use Rattle.search.proofs.Rounds.{length-marks, round-still}
 use Rattle.search.proofs.Least.{SoFar, unreached, reached, marks-right}
 

@@ -1,6 +1,6 @@
 -- What a distance means: the least number of links that reach a server, or that no number of links does.
 -- Sections "Local distance" and "Broadcast".
-use Prim.Native.Nat.{ℕ, zero, suc, _≤_, _<_}
+use Prim.Native.Nat.{ℕ, zero, suc, _<_}
 use mathlib.Core.Path.{_≡_}
 use mathlib.Core.Bool.{Bool, true, false}
 use mathlib.Core.List.{List, [], _∷_}

@@ -1,7 +1,7 @@
 -- A search by rounds: `adj y x` says that a usable link joins y and x, n is the number of servers, `none` the mark of one that is not reached.
 -- Sections "Local distance" and "Broadcast".
 use Prim.Native.Nat.{ℕ, zero, suc, _+_, max}
-use mathlib.Core.Bool.{Bool, true, false}
+use mathlib.Core.Bool.{Bool}
 use mathlib.Core.List.{List, _++_}
 use lib.Dec.{eqb, leb}
 use lib.ListN.{getD, drop, set, replicate}

@@ -6,7 +6,7 @@ use native.Mathlib.Omega.{arith}
 use borrow.Author.Needs.{needs}
 use lib.ListN.{length, take, drop, getD, set, length-set}
 use lib.Seq.{take-all}
-use Rattle.calls.proofs.Told.{Put, put-more}
+use Rattle.hall.proofs.Told.{Put, put-more}
 use Rattle.calls.proofs.put.Statement.{statement}
 use Rattle.calls.proofs.put.Tie as tie
 

@@ -5,7 +5,7 @@ use Prim.Native.Nat.{ℕ, zero, suc, _+_, _-_, _≤_, _<_}
 use native.Mathlib.Omega.{arith}
 use lib.ListN.{length, take, drop, getD, set, length-set}
 use lib.Seq.{take-all}
-use Rattle.calls.proofs.Told.{Put, put-more}
+use Rattle.hall.proofs.Told.{Put, put-more}
 use Rattle.calls.proofs.put_bytes.Statement.{statement}
 use Rattle.calls.proofs.put_bytes.Tie as tie
 

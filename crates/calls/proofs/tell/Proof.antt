@@ -1,7 +1,7 @@
 -- `calls::tell` meets its contract, by the three ways in which an answer is told.
 use mathlib.Core.Path.{_≡_, refl, sym, _∙_}
 use borrow.Author.Needs.{needs}
-use Rattle.calls.proofs.Told.{told-refused, told-short, told-good, written-refused, written-short, written-good}
+use Rattle.hall.proofs.Told.{told-refused, told-short, told-good, written-refused, written-short, written-good}
 use Rattle.calls.proofs.tell.Statement.{statement}
 use Rattle.calls.proofs.tell.Tie as tie
 

@@ -1,13 +1,10 @@
 -- `route::first_above` meets its contract. The invariant: what is found so far, or the first link above b to the goal so far, is the
 -- answer. The measure is the level.
-use mathlib.Core.Path.{_≡_, _∙_}
-use mathlib.Core.List.{List}
-use Prim.Native.Nat.{ℕ, _+_, _-_, _*_, _/_, _<_, _≤_}
+use mathlib.Core.Path.{_∙_}
+use Prim.Native.Nat.{_-_}
 use native.Mathlib.Nat.{div-mul-le-self}
 use native.Mathlib.Omega.{arith}
 use lib.ListN.{getD}
-use Rattle.hall.specs.Cells.{port}
-use Rattle.hall.specs.Halls.{largest}
 use Rattle.route.proofs.Inside.{size-pos}
 use Rattle.route.proofs.Search.{Search, search-starts, search-ends, search-same, search-apart, ends-fit, found-none, found-some}
 use Rattle.route.proofs.first_above.Statement.{statement}
@@ -58,17 +55,17 @@ add-here c =
     let w = c .before .before .loop in
     omega (arith, w .inv .inside .fits, w .inv .inside .from-in, div-mul-le-self (w .from) (getD (s .args .sizes .now) (w .j - 1) 0))
 
+rem-to-inside : tie.Need-rem-to-inside Inv-loop μ-loop
+rem-to-inside c =
+    let s = c .before .before .before in
+    let w = c .before .before .loop in
+    size-pos (s .args .sizes .now) (w .j) (w .first) (w .from) (w .to) (w .inv .inside) (omega (arith, c .before .loop-test .taken))
+
 rem-from : tie.Need-rem-from Inv-loop μ-loop
 rem-from c =
     let s = c .before .before .before in
     let w = c .before .before .loop in
     size-pos (s .args .sizes .now) (w .j) (w .first) (w .from) (w .to) (w .inv .inside) (omega (arith, c .before .loop-test .taken))
-
-rem-to : tie.Need-rem-to Inv-loop μ-loop
-rem-to c =
-    let s = c .before .before .before .before in
-    let w = c .before .before .before .loop in
-    size-pos (s .args .sizes .now) (w .j) (w .first) (w .from) (w .to) (w .inv .inside) (omega (arith, c .before .before .loop-test .taken))
 
 loop-less : tie.Need-loop-less Inv-loop μ-loop
 loop-less c = omega arith
@@ -151,8 +148,8 @@ first-above-spec =
     div-q
     mul-here
     add-here
+    rem-to-inside
     rem-from
-    rem-to
     loop-less
     loop-again
     port-to-requires

@@ -1,5 +1,4 @@
 -- `route::first_link` meets its contract: where the hall and both servers are sound, it is what `first_above` finds.
-use mathlib.Core.Path.{_≡_, sym, _∙_, ap}
 use Prim.Native.Nat.{_<_}
 use native.Mathlib.Omega.{arith}
 use borrow.Author.Needs.{needs}

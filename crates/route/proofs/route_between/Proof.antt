@@ -1,6 +1,6 @@
 -- `route::route_between` meets its contract: what the sizes refuse is the hall, the size of level k is that of the hall, and the places
 -- are filled in from the first on.
-use mathlib.Core.Path.{_≡_, sym, _∙_, ap}
+use mathlib.Core.Path.{_∙_, ap}
 use Prim.Native.Nat.{_<_}
 use native.Mathlib.Omega.{arith}
 use borrow.Author.Needs.{needs}

@@ -8,7 +8,7 @@ use lib.Dec.{eqb}
 use lib.ListN.{length, take, drop, getD, set}
 use lib.Seq.{paste-suc}
 use borrow.Author.Tests.{eq-eqb, ne-eqb, lt-ltb, le-ltb}
-use Rattle.calls.specs.Rooms.{told, written}
+use Rattle.hall.specs.Rooms.{told, written}
 
 -- the room with the first i words in it
 abbrev pub Put : List ℕ → List ℕ → ℕ → List ℕ

@@ -1,0 +1,60 @@
+-- What reading a frame answers: the header's fields, and the payload.
+-- Section "Frame header".
+use Prim.Native.Nat.{ℕ, _+_, _*_, _%_}
+use mathlib.Core.Bool.{false}
+use mathlib.Core.List.{List, []}
+use lib.Dec.{eqb}
+use lib.ListN.{take, drop}
+use Rattle.combine.specs.Tests.{pick}
+use Rattle.hall.specs.Refusals.{answered}
+use Rattle.frame.specs.declared.Header.{Header}
+use Rattle.frame.specs.Layout.{DHL, protocol, payloadLength, identification, retry, TTL, source, destination, valueIn, wordAt}
+use Rattle.frame.specs.Asks.{hasProxy, proxyIn, frameRefusal}
+
+-- the fields of a header; zero for a proxy that is not there
+abbrev pub headerOf : (ℕ → ℕ) → Header
+headerOf words =
+    record {
+      refusal = 0;
+      protocol = valueIn words protocol;
+      «payload_length» = valueIn words payloadLength;
+      identification = valueIn words identification;
+      retry = valueIn words retry;
+      ttl = valueIn words TTL;
+      source = valueIn words source;
+      destination = valueIn words destination;
+      «has_proxy» = hasProxy words;
+      proxy = proxyIn words;
+      «header_length» = 4 * valueIn words DHL;
+    }
+
+abbrev pub refusedHeader : ℕ → Header
+refusedHeader number =
+    record {
+      refusal = number;
+      protocol = 0;
+      «payload_length» = 0;
+      identification = 0;
+      retry = 0;
+      ttl = 0;
+      source = 0;
+      destination = 0;
+      «has_proxy» = false;
+      proxy = 0;
+      «header_length» = 0;
+    }
+
+-- a frame read
+abbrev pub readFrame : List ℕ → Header
+readFrame frame = answered (frameRefusal frame) (headerOf (wordAt frame)) refusedHeader
+
+-- the part behind the header, payload length bytes long; later bytes are padding
+abbrev pub payloadOf : List ℕ → List ℕ
+payloadOf frame =
+    pick (eqb (frameRefusal frame) 0)
+    (take (valueIn (wordAt frame) payloadLength) (drop (4 * valueIn (wordAt frame) DHL) frame))
+    []
+
+-- the identification after a given one: that after 4,294,967,295 is 0
+abbrev pub nextIdentification : ℕ → ℕ
+nextIdentification id = (id + 1) % 4294967296

@@ -1,0 +1,11 @@
+-- The laws.
+pub mod Sizes
+pub mod Asks
+pub mod Rounds
+pub mod Lowest
+pub mod Linked
+pub mod Answers
+pub mod Distance
+pub mod Hops
+pub mod Uids
+pub mod Short

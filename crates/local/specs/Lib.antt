@@ -1,0 +1,5 @@
+-- What a local distance and a local next hop are, and what each call about them answers.
+pub mod Lowest
+pub mod Local
+pub mod Answers
+pub mod Worked

@@ -1,0 +1,366 @@
+// Distances inside a DCell(b) over its usable links, and the next hop that they give.
+ghost use mathlib.Core.Path.{_≡_};
+ghost use mathlib.Core.Bool.{true};
+ghost use mathlib.Core.List.{[], _∷_};
+ghost use Prim.Native.Nat.{_+_, _*_, _≤_, _<_};
+ghost use lib.ListN.{length, replicate};
+ghost use Rattle.combine.specs.Tests.{both, anyBelow};
+ghost use Rattle.hall.specs.Refusals.{refusal};
+ghost use Rattle.hall.specs.Cells.{neighbour};
+ghost use Rattle.hall.specs.Halls.{valid, asksHall, asksUid};
+ghost use Rattle.ports.specs.Codes.{up};
+ghost use Rattle.ports.specs.Links.{onSwitch, bothUp, switchHas};
+ghost use Rattle.ports.specs.Answers.{asksCell};
+ghost use Rattle.search.specs.Rounds.{new, round};
+ghost use Rattle.local.specs.Local.{places, none, cellSize, reachedBy, onLink, linked, recordFrom, nearerBy, hop};
+ghost use Rattle.local.specs.Answers.{distancesOf, nextHopOf};
+
+use hall::Hall;
+use hall::refusals::BAD_HALL;
+use hall::refusals::BAD_LENGTH;
+use hall::refusals::BAD_UID;
+
+// The distance that says that there is none.
+pub const NONE: u8 = 255;
+
+// The distances from one server, kept with it: the place of a server in the cell is its uid less the cell's first.
+pub struct Distances {
+    pub refusal: u32,
+    pub origin: u32,
+    pub count: u32,
+    pub distance: [u8; 72],
+}
+
+// The next hop's uid; found is 0 where there is none, else 1.
+pub struct NextHop {
+    pub refusal: u32,
+    pub found: u32,
+    pub uid: u32,
+}
+
+// The switches of a DCell(b).
+fn switches(h: Hall) -> u32
+    requires { ⌜ valid h ≡ true ⌝ }
+    ensures { λ r. ⌜ r * h .n ≡ cellSize h ⌝ }
+{
+    if h.b == 0 {
+        return 1;
+    }
+    h.n + 1
+}
+
+// t(b), the servers of a DCell(b).
+fn cell_size(h: Hall) -> u32
+    requires { ⌜ valid h ≡ true ⌝ }
+    ensures { λ r. ⌜ r ≡ cellSize h ⌝ }
+{
+    switches(h) * h.n
+}
+
+// The refusal for a hall, the table of a DCell(b) and a uid, 0 for none.
+fn refused(h: Hall, table: &[u8], uid: u32) -> u32
+    ensures { λ r. ⌜ r ≡ refusal (asksHall h ∷ asksCell h (now (table .entry)) ∷ asksUid h uid ∷ []) ⌝ }
+{
+    let servers = hall::servers_of(h);
+    if servers == 0 {
+        return BAD_HALL;
+    }
+    let bytes = (cell_size(h) as usize) * ((h.k as usize) + 1);
+    if table.len() != bytes {
+        return BAD_LENGTH;
+    }
+    if servers <= uid {
+        return BAD_UID;
+    }
+    0
+}
+
+// Whether port i of both servers is up.
+fn both_up(h: Hall, table: &[u8], port: u32, x: u32, y: u32) -> bool
+    ensures { λ r. ⌜ r ≡ bothUp h (now (table .entry)) port x y ⌝ }
+{
+    if !ports::is_up(h, table, x, port) {
+        return false;
+    }
+    ports::is_up(h, table, y, port)
+}
+
+// Whether y is reached before round r: what round r itself writes is not.
+fn is_reached(d: &[u8; 72], r: u8, y: u32) -> bool
+    requires { ⌜ y < 72 ⌝ }
+    ensures { λ o. ⌜ o ≡ reachedBy (now (d .entry)) r y ⌝ }
+{
+    let at = y as usize;
+    d[at] <= r
+}
+
+// Whether y is reached before round r and has its port 0 up.
+fn gives(h: Hall, table: &[u8], d: &[u8; 72], r: u8, y: u32) -> bool
+    requires { ⌜ y < 72 ⌝ }
+    ensures { λ o. ⌜ o ≡ both (reachedBy (now (d .entry)) r y) (up h (now (table .entry)) y 0) ⌝ }
+{
+    if !is_reached(d, r, y) {
+        return false;
+    }
+    ports::is_up(h, table, y, 0)
+}
+
+// Whether a server of the switch s is reached before round r and has its port 0 up.
+fn is_live(h: Hall, table: &[u8], d: &[u8; 72], r: u8, s: u32) -> bool
+    requires { ⌜ s * h .n + h .n ≤ 72 ⌝ }
+    ensures { λ o. ⌜ o ≡ switchHas h (now (table .entry)) (reachedBy (now (d .entry)) r) s ⌝ }
+{
+    let first = s * h.n;
+    let mut i: u32 = 0;
+    while i < h.n {
+        if gives(h, table, d, r, first + i) {
+            return true;
+        }
+        i += 1;
+    }
+    false
+}
+
+// The place of the level-1 neighbour of server i on switch s.
+fn neighbour_place(n: u32, s: u32, i: u32) -> u32
+    requires { ⌜ (n ≤ 8) × (i < n) × (s ≤ n) ⌝ }
+    ensures { λ r. ⌜ r ≡ neighbour n 0 (s * n + i) ⌝ }
+{
+    if s <= i {
+        return (i + 1) * n + s;
+    }
+    i * n + (s - 1)
+}
+
+// Whether y is reached before round r, with both ends of its level-1 link to x up.
+fn over_link(h: Hall, table: &[u8], d: &[u8; 72], r: u8, x: u32, y: u32) -> bool
+    requires { ⌜ y < 72 ⌝ }
+    ensures { λ o. ⌜ o ≡ onLink h (now (table .entry)) (reachedBy (now (d .entry)) r) x y ⌝ }
+{
+    if !is_reached(d, r, y) {
+        return false;
+    }
+    both_up(h, table, 1, y, x)
+}
+
+// Whether x has its port 0 up, and a live switch.
+fn by_switch(h: Hall, table: &[u8], x: u32, live: bool) -> bool
+    ensures { λ r. ⌜ r ≡ both (up h (now (table .entry)) x 0) live ⌝ }
+{
+    if !live {
+        return false;
+    }
+    ports::is_up(h, table, x, 0)
+}
+
+// Whether round r reaches server i of switch s; `live` says whether one on that switch is reached before it, with its port 0 up.
+fn is_new(h: Hall, table: &[u8], d: &[u8; 72], r: u8, s: u32, i: u32, live: bool) -> bool
+    requires { ⌜ (valid h ≡ true) × (r < 255) × (i < h .n) × (s * h .n + i < cellSize h) × (live ≡ switchHas h (now table) (reachedBy (now d) r) s) ⌝ }
+    ensures { λ o. ⌜ o ≡ new (linked h (now (table .entry))) (cellSize h) none r (now (d .entry)) (s * h .n + i) ⌝ }
+{
+    let x = s * h.n + i;
+    let at = x as usize;
+    if d[at] != NONE {
+        return false;
+    }
+    if by_switch(h, table, x, live) {
+        return true;
+    }
+    if h.b == 0 {
+        return false;
+    }
+    over_link(h, table, d, r, x, neighbour_place(h.n, s, i))
+}
+
+// Round r where the distances stand: who is new gets r + 1. Answers whether anybody is.
+fn one_round(h: Hall, table: &[u8], d: &mut [u8; 72], r: u8) -> bool
+    requires { ⌜ (valid h ≡ true) × (r < 72) × (length (now d) ≡ 72) ⌝ }
+    ensures reaches { λ o. ⌜ o ≡ anyBelow (new (linked h (now (table .entry))) (cellSize h) none r (now (d .entry))) (cellSize h) ⌝ }
+    ensures writes { λ o. ⌜ now (d .exit) ≡ round (linked h (now (table .entry))) (cellSize h) none r (now (d .entry)) ⌝ }
+{
+    let count = switches(h);
+    let mut any = false;
+    let mut s: u32 = 0;
+    while s < count {
+        let live = is_live(h, table, d, r, s);
+        let mut i: u32 = 0;
+        while i < h.n {
+            if is_new(h, table, d, r, s, i, live) {
+                let at = (s * h.n + i) as usize;
+                d[at] = r + 1;
+                any = true;
+            }
+            i += 1;
+        }
+        s += 1;
+    }
+    any
+}
+
+// No distance to any place.
+fn unreached() -> [u8; 72]
+    ensures { λ r. ⌜ r ≡ replicate places none ⌝ }
+{
+    [255u8; 72]
+}
+
+// What a refusal tells of distances.
+fn untold() -> [u8; 72]
+    ensures { λ r. ⌜ r ≡ replicate places 0 ⌝ }
+{
+    [0u8; 72]
+}
+
+// The distance of each place from the place o.
+fn distances_from(h: Hall, table: &[u8], o: u32) -> [u8; 72]
+    requires { ⌜ (valid h ≡ true) × (o < cellSize h) ⌝ }
+    ensures { λ r. ⌜ r ≡ recordFrom h (now (table .entry)) o ⌝ }
+{
+    let count = cell_size(h);
+    let mut d = unreached();
+    let at = o as usize;
+    d[at] = 0;
+    let mut r: u8 = 0;
+    while (r as u32) < count {
+        if !one_round(h, table, &mut d, r) {
+            return d;
+        }
+        r += 1;
+    }
+    d
+}
+
+// The distances from a server to each server of its DCell(b), over the table of that cell.
+pub fn distances_of(h: Hall, uid: u32, table: &[u8]) -> Distances
+    ensures { λ r. ⌜ r ≡ distancesOf h uid (now (table .entry)) ⌝ }
+{
+    let number = refused(h, table, uid);
+    if number != 0 {
+        return Distances {
+            refusal: number,
+            origin: 0,
+            count: 0,
+            distance: untold(),
+        };
+    }
+    let count = cell_size(h);
+    Distances {
+        refusal: 0,
+        origin: uid,
+        count,
+        distance: distances_from(h, table, uid % count),
+    }
+}
+
+// Whether two servers are on one switch.
+fn on_switch(n: u32, x: u32, y: u32) -> bool
+    requires { ⌜ 0 < n ⌝ }
+    ensures { λ r. ⌜ r ≡ onSwitch n x y ⌝ }
+{
+    if x == y {
+        return false;
+    }
+    x / n == y / n
+}
+
+// Whether a usable link joins the servers at two places.
+fn is_linked(h: Hall, table: &[u8], x: u32, y: u32) -> bool
+    requires { ⌜ valid h ≡ true ⌝ }
+    ensures { λ r. ⌜ r ≡ linked h (now (table .entry)) x y ⌝ }
+{
+    if on_switch(h.n, x, y) {
+        return both_up(h, table, 0, x, y);
+    }
+    if h.b == 0 {
+        return false;
+    }
+    if hall::neighbour_over(h.n, x) != (y as u64) {
+        return false;
+    }
+    both_up(h, table, 1, x, y)
+}
+
+// Whether z is a usable neighbour of x, and one link nearer to where the distances are from.
+fn is_nearer(h: Hall, table: &[u8], d: &[u8; 72], x: u32, z: u32) -> bool
+    requires { ⌜ (valid h ≡ true) × (x < 72) × (z < 72) ⌝ }
+    ensures { λ r. ⌜ r ≡ nearerBy h (now (table .entry)) (now (d .entry)) x z ⌝ }
+{
+    let here = x as usize;
+    let far = d[here];
+    if far == 0 {
+        return false;
+    }
+    let there = z as usize;
+    if d[there] != far - 1 {
+        return false;
+    }
+    is_linked(h, table, x, z)
+}
+
+// The place of the next hop from x towards y, the cell's size where there is none.
+fn hop_place(h: Hall, table: &[u8], x: u32, y: u32) -> u32
+    requires { ⌜ (valid h ≡ true) × (x < cellSize h) × (y < cellSize h) ⌝ }
+    ensures { λ r. ⌜ r ≡ hop h (now (table .entry)) x y ⌝ }
+{
+    let count = cell_size(h);
+    let d = distances_from(h, table, y);
+    let mut z: u32 = 0;
+    while z < count {
+        if is_nearer(h, table, &d, x, z) {
+            return z;
+        }
+        z += 1;
+    }
+    z
+}
+
+// The refusal for a hall, the table of a DCell(b) and two uids, 0 for none.
+fn refused_two(h: Hall, table: &[u8], uid: u32, target: u32) -> u32
+    ensures { λ r. ⌜ r ≡ refusal (asksHall h ∷ asksCell h (now (table .entry)) ∷ asksUid h uid ∷ asksUid h target ∷ []) ⌝ }
+{
+    let number = refused(h, table, uid);
+    if number != 0 {
+        return number;
+    }
+    if hall::servers_of(h) <= target {
+        return BAD_UID;
+    }
+    0
+}
+
+// The local next hop from a server towards another of its DCell(b), over the table of that cell.
+pub fn next_hop(h: Hall, uid: u32, target: u32, table: &[u8]) -> NextHop
+    ensures { λ r. ⌜ r ≡ nextHopOf h uid target (now (table .entry)) ⌝ }
+{
+    let number = refused_two(h, table, uid, target);
+    if number != 0 {
+        return NextHop {
+            refusal: number,
+            found: 0,
+            uid: 0,
+        };
+    }
+    let count = cell_size(h);
+    let cell = uid / count;
+    if target / count != cell {
+        return NextHop {
+            refusal: 0,
+            found: 0,
+            uid: 0,
+        };
+    }
+    let z = hop_place(h, table, uid % count, target % count);
+    if z < count {
+        let next = cell * count + z;
+        return NextHop {
+            refusal: 0,
+            found: 1,
+            uid: next,
+        };
+    }
+    NextHop {
+        refusal: 0,
+        found: 0,
+        uid: 0,
+    }
+}
