@@ -9,6 +9,9 @@ use Rattle.hall.specs.declared.Cell.{Cell}
 use Rattle.hall.specs.declared.Neighbour.{Neighbour}
 use Rattle.hall.specs.declared.Link.{Link}
 use Rattle.route.specs.declared.Route.{Route}
+use Rattle.local.specs.declared.Distances.{Distances}
+use Rattle.local.specs.declared.NextHop.{NextHop}
+use Rattle.broadcast.specs.declared.Broadcast.{Broadcast}
 use Rattle.ports.specs.Answers.{partRefusal, partOf}
 use Rattle.hall.specs.Rooms.{Outcome}
 
@@ -41,3 +44,17 @@ ofRoute a = (a .refusal, a .uids)
 -- the part of a hall table for a server
 abbrev pub ofPart : Hall → List ℕ → ℕ → Outcome
 ofPart h table u = (partRefusal h table u, partOf h table u)
+
+-- the 72 distances, and what they are kept with
+abbrev pub ofDistances : Distances → Outcome
+ofDistances a = (a .refusal, a .distance)
+
+abbrev pub ofOrigin : Distances → Outcome
+ofOrigin a = (a .refusal, a .origin ∷ a .count ∷ [])
+
+abbrev pub ofNextHop : NextHop → Outcome
+ofNextHop a = (a .refusal, a .found ∷ a .uid ∷ [])
+
+-- the servers reached and the last round
+abbrev pub ofBroadcast : Broadcast → Outcome
+ofBroadcast a = (a .refusal, a .reached ∷ a .last ∷ [])

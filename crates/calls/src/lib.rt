@@ -6,8 +6,11 @@ ghost use lib.ListN.{length, drop};
 ghost use Rattle.hall.specs.Answers.{sizesOf, uidOf, tupleOf, cellAround, neighbourOf, linkBetween};
 ghost use Rattle.route.specs.Answers.{routeBetween};
 ghost use Rattle.ports.specs.Answers.{checkOf};
+ghost use Rattle.local.specs.Answers.{distancesOf, nextHopOf};
+ghost use Rattle.broadcast.specs.Broadcasts.{broadcastOf, roomOf};
+ghost use Rattle.frame.specs.Reading.{payloadOf, nextIdentification};
 ghost use Rattle.hall.specs.Rooms.{told, written};
-ghost use Rattle.calls.specs.Outcomes.{hallOf, ofSizes, ofUid, ofTuple, ofCell, ofNeighbour, ofLink, ofRoute, ofPart};
+ghost use Rattle.calls.specs.Outcomes.{hallOf, ofSizes, ofUid, ofTuple, ofCell, ofNeighbour, ofLink, ofRoute, ofPart, ofDistances, ofOrigin, ofNextHop, ofBroadcast};
 use hall::Hall;
 use hall::refusals::SHORT_ROOM;
 
@@ -189,4 +192,61 @@ pub extern "C" fn calls_route_links(n: u32, k: u32, b: u32, x: u32, y: u32) -> u
     ensures { λ r. ⌜ r ≡ routeBetween (hallOf n k b) x y .links ⌝ }
 {
     route::route_between(Hall { n, k, b }, x, y).links
+}
+
+#[no_mangle]
+pub extern "C" fn calls_distances(n: u32, k: u32, b: u32, uid: u32, table: &[u8], room: &mut [u8]) -> u32
+    ensures number { λ r. ⌜ r ≡ told (ofDistances (distancesOf (hallOf n k b) uid (now (table .entry)))) (now (room .entry)) ⌝ }
+    ensures room { λ _. ⌜ now (room .exit) ≡ written (ofDistances (distancesOf (hallOf n k b) uid (now (table .entry)))) (now (room .entry)) ⌝ }
+{
+    let a = local::distances_of(Hall { n, k, b }, uid, table);
+    let bytes = a.distance;
+    tell_bytes(a.refusal, &bytes, room)
+}
+
+#[no_mangle]
+pub extern "C" fn calls_distances_origin(n: u32, k: u32, b: u32, uid: u32, table: &[u8], room: &mut [u32]) -> u32
+    ensures number { λ r. ⌜ r ≡ told (ofOrigin (distancesOf (hallOf n k b) uid (now (table .entry)))) (now (room .entry)) ⌝ }
+    ensures room { λ _. ⌜ now (room .exit) ≡ written (ofOrigin (distancesOf (hallOf n k b) uid (now (table .entry)))) (now (room .entry)) ⌝ }
+{
+    let a = local::distances_of(Hall { n, k, b }, uid, table);
+    let words = [a.origin, a.count];
+    tell(a.refusal, &words, room)
+}
+
+#[no_mangle]
+pub extern "C" fn calls_next_hop(n: u32, k: u32, b: u32, uid: u32, target: u32, table: &[u8], room: &mut [u32]) -> u32
+    ensures number { λ r. ⌜ r ≡ told (ofNextHop (nextHopOf (hallOf n k b) uid target (now (table .entry)))) (now (room .entry)) ⌝ }
+    ensures room { λ _. ⌜ now (room .exit) ≡ written (ofNextHop (nextHopOf (hallOf n k b) uid target (now (table .entry)))) (now (room .entry)) ⌝ }
+{
+    let a = local::next_hop(Hall { n, k, b }, uid, target, table);
+    let words = [a.found, a.uid];
+    tell(a.refusal, &words, room)
+}
+
+#[no_mangle]
+pub extern "C" fn calls_payload(frame: &[u8], room: &mut [u8]) -> u32
+    ensures number { λ r. ⌜ r ≡ told (0, payloadOf (now (frame .entry))) (now (room .entry)) ⌝ }
+    ensures room { λ _. ⌜ now (room .exit) ≡ written (0, payloadOf (now (frame .entry))) (now (room .entry)) ⌝ }
+{
+    let part = frame::payload_of(frame);
+    tell_bytes(0, part, room)
+}
+
+#[no_mangle]
+pub extern "C" fn calls_next_identification(id: u32) -> u32
+    ensures { λ r. ⌜ r ≡ nextIdentification id ⌝ }
+{
+    frame::next_identification(id)
+}
+
+#[no_mangle]
+pub extern "C" fn calls_broadcast(n: u32, k: u32, b: u32, table: &[u8], source: u32, scope: u32, rounds: &mut [u16], room: &mut [u32]) -> u32
+    ensures number { λ r. ⌜ r ≡ told (ofBroadcast (broadcastOf (hallOf n k b) (now (table .entry)) source scope (now (rounds .entry)))) (now (room .entry)) ⌝ }
+    ensures rounds { λ _. ⌜ now (rounds .exit) ≡ roomOf (hallOf n k b) (now (table .entry)) source scope (now (rounds .entry)) ⌝ }
+    ensures room { λ _. ⌜ now (room .exit) ≡ written (ofBroadcast (broadcastOf (hallOf n k b) (now (table .entry)) source scope (now (rounds .entry)))) (now (room .entry)) ⌝ }
+{
+    let a = broadcast::broadcast_rounds(Hall { n, k, b }, table, source, scope, rounds);
+    let words = [a.reached, a.last];
+    tell(a.refusal, &words, room)
 }

@@ -77,7 +77,6 @@ whole-hall h sizes x y G hx hy = record {
     sized = λ i l. rw (G .at-zero) (G .at i l);
     positive = rw (G .at-zero) (omega (arith, G .known .n-low));
     levels = omega (arith, G .known .k-high);
-    small = rw (G .at-zero) (valid-size h (G .known) (h .k) (omega arith));
   };
   low = omega arith;
   number = 0;

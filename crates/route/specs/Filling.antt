@@ -18,12 +18,11 @@ inSwitch x y = pick (eqb x y) (x ∷ []) (x ∷ y ∷ [])
 abbrev pub perSwitch : List ℕ → ℕ
 perSwitch sizes = getD sizes 0 0
 
--- these are the sizes t(0) .. t(k) of a hall that is not too large
+-- these are the sizes t(0) .. t(k) of a hall
 pub record Sized (sizes : List ℕ) (k : ℕ) : Type 0 where
   pub sized : (i : ℕ) → i ≤ k → getD sizes i 0 ≡ t (perSwitch sizes) i
   pub positive : 0 < perSwitch sizes
   pub levels : k < places
-  pub small : t (perSwitch sizes) k ≤ largest
 
 -- the DCell of a level of such a hall, by its first uid, and two places inside it
 pub record Inside (sizes : List ℕ) (level first from to : ℕ) : Type 0 where

@@ -1,0 +1,83 @@
+-- Laws of the rounds as a whole: the two kinds of sweeps make a round, rounds make the marks, and the first round that reaches nobody
+-- leaves the numbers that all rounds would.
+use mathlib.Core.Path.{_≡_, refl, sym, _∙_, ap}
+use mathlib.Core.Bool.{Bool, true, false}
+use mathlib.Core.List.{List, [], _∷_, _++_}
+use Prim.Native.Nat.{ℕ, zero, suc, _+_, _-_, _*_, _/_, _%_, _≤_, _<_}
+use native.Mathlib.Nat.{mul-div-cancel}
+use native.Mathlib.Numerals.{add-one}
+use native.Mathlib.Omega.{arith}
+use lib.ListN.{length, take, drop, set, replicate, length-replicate, take-append-drop}
+use lib.Seq.{set-append-left}
+use Rattle.combine.specs.Tests.{pick, both, either, anyBelow}
+use Rattle.hall.specs.declared.Hall.{Hall}
+use Rattle.hall.specs.Cells.{t}
+use Rattle.ports.specs.Links.{joined}
+use Rattle.ports.proofs.Parts.{t-whole}
+use Rattle.search.specs.Rounds.{new, round, start, marks, distances}
+use Rattle.search.proofs.Rounds.{length-marks, marks-start, marks-more, tail-round, tail-any}
+use Rattle.search.proofs.Stops.{Idle, idle-same, idle-ends}
+use Rattle.broadcast.specs.Broadcasts.{none}
+use Rattle.broadcast.specs.Sweeps.{Sweep, reachedBy, onSwitches, onLevels, within, RoundFits, Ready}
+use Rattle.broadcast.proofs.Marks.{sweep-cong, sweep-then}
+use Rattle.broadcast.proofs.Reaches.{reads-same, within-split, round-made, any-made, scope-fits}
+
+-- a scope is a whole number of switches
+pub whole-switches : (h : Hall) (s size r : ℕ) (room : List ℕ) → RoundFits h s size r room → size / h .n * h .n ≡ size
+unfolding t
+whole-switches h s size r room fits =
+    let w = t-whole (h .n) 0 s (omega arith) in
+    let pos : 0 < h .n = omega (arith, fits .n-low) in
+    let e : size ≡ w .0 * h .n = fits .size-is ∙ w .1 in
+    let d : size / h .n ≡ w .0 = ap (λ (k : ℕ). k / h .n) e ∙ mul-div-cancel (w .0) pos in
+    ap (λ (k : ℕ). k * h .n) d ∙ sym e
+
+-- the sweep over the switches, then that over the levels
+pub sweeps-make : (h : Hall) (table : List ℕ) (s size r : ℕ) (old mid room : List ℕ) (a b : Bool) → RoundFits h s size r old
+    → Sweep (onSwitches h table (reachedBy r old) (size / h .n * h .n)) r old mid a → Sweep (onLevels h table (reachedBy r mid) size s) r mid room b
+    → Sweep (within h table (reachedBy r old) size s) r old room (either a b)
+sweeps-make h table s size r old mid room a b fits f g =
+    let e = whole-switches h s size r old fits in
+    let first : Sweep (onSwitches h table (reachedBy r old) size) r old mid a = rw e at f in
+    let same = reads-same (onSwitches h table (reachedBy r old) size) r old mid a (omega (arith, fits .small)) first in
+    let then : Sweep (onLevels h table (reachedBy r old) size s) r mid room b = rw same at g in
+    sweep-cong (λ y. either (onSwitches h table (reachedBy r old) size y) (onLevels h table (reachedBy r old) size s y)) (within h table (reachedBy r old) size s) r old room (either a b)
+    (within-split h table (reachedBy r old) size s old)
+    (sweep-then (onSwitches h table (reachedBy r old) size) (onLevels h table (reachedBy r old) size s) r old mid room a b (omega (arith, fits .small)) first then)
+
+-- before the first round
+pub begun : (size o : ℕ) (tail : List ℕ) → o < size → set (replicate size none ++ tail) o 0 ≡ start size none o ++ tail
+begun size o tail h = set-append-left {A = ℕ} (replicate size none) tail o 0 (omega (arith, length-replicate {A = ℕ} size none))
+
+pub ready-marks : (h : Hall) (table : List ℕ) (s size o : ℕ) (room : List ℕ) → Ready h s size o room → room ≡ marks (joined h table s) size none o 0 ++ drop size room
+ready-marks h table s size o room k =
+    sym (take-append-drop {A = ℕ} size room)
+    ∙ ap (λ (l : List ℕ). l ++ drop size room) (k .begun ∙ sym (marks-start (joined h table s) size none o))
+
+-- a round more, on a room that begins with the marks
+module _ (h : Hall) (table : List ℕ) (s size o r : ℕ) (room next tail : List ℕ) (any : Bool) (fits : RoundFits h s size r room)
+    (now : room ≡ marks (joined h table s) size none o r ++ tail) (made : Sweep (within h table (reachedBy r room) size s) r room next any) where
+  pub next-marks : next ≡ marks (joined h table s) size none o (r + 1) ++ tail
+  next-marks =
+      round-made h table s size r room next any fits made
+      ∙ ap (λ (l : List ℕ). round (joined h table s) size none r l) now
+      ∙ tail-round (joined h table s) size none (marks (joined h table s) size none o r) tail (length-marks (joined h table s) size none o r) r
+      ∙ ap (λ (l : List ℕ). l ++ tail) (sym (marks-more (joined h table s) size none o r))
+
+  idle-now : (inside : o < size) → any ≡ false → Idle (joined h table s) size none o inside r
+  idle-now inside e =
+      sym (tail-any (joined h table s) size none (marks (joined h table s) size none o r) tail (length-marks (joined h table s) size none o r) r)
+      ∙ ap (λ (l : List ℕ). anyBelow (new (joined h table s) size none r l) size) (sym now)
+      ∙ sym (any-made h table s size r room next any fits made)
+      ∙ e
+
+  -- a round that reaches nobody is the last
+  pub idle-marks : o < size → r < size → any ≡ false → next ≡ distances (joined h table s) size none o ++ tail
+  idle-marks inside l e =
+      let i = idle-now inside e in
+      let f = scope-fits h s size r room fits in
+      next-marks
+      ∙ ap (λ (k : List ℕ). k ++ tail)
+      (ap (λ (k : ℕ). marks (joined h table s) size none o k) (add-one r)
+      ∙ idle-same (joined h table s) size none o inside r i
+      ∙ sym (idle-ends (joined h table s) size none o inside r size (omega arith) (omega arith) i))

@@ -1,0 +1,156 @@
+-- `broadcast::broadcast_rounds` meets its contract: refused, it leaves the room as lent; else the run of the table for the source's DCell(s)
+-- lies within the table, and the rounds over it are the rounds over the hall table.
+use mathlib.Core.Path.{_≡_, refl, _∙_, sym}
+use mathlib.Core.List.{List}
+use Prim.Native.Nat.{ℕ, _+_, _-_, _*_, _/_, _%_, _≤_, _<_}
+use native.Mathlib.Nat.{div-le-self, mul-le-mul}
+use native.Mathlib.Omega.{arith}
+use lib.ListN.{length, take, drop}
+use borrow.Author.Needs.{needs}
+use Rattle.ports.proofs.Parts.{product-fits}
+use Rattle.broadcast.proofs.Calls.{accepted, answer-refused, room-as-lent, low, size-pos, size-small, origin-low, run-ends, run-is, begun-ready, room-long, room-at-exit, answer-is}
+use Rattle.broadcast.proofs.broadcast_rounds.Statement.{statement}
+use Rattle.broadcast.proofs.broadcast_rounds.Tie as tie
+
+refused-requires : tie.Need-refused-requires
+refused-requires c κs = search needs
+
+same-length : tie.Need-same-length
+same-length c = search needs
+
+returns : tie.Need-returns
+returns c =
+    let a = c .before .before .before .before .before .args in
+    let n = c .before .refused in
+    (answer-refused (a .h) (a .table .now) (a .source) (a .scope) (a .room .now) (n .result) (n .ensures) (c .if1 .taken),
+    room-as-lent (a .h) (a .table .now) (a .source) (a .scope) (a .room .now) (n .result) (n .ensures) (c .if1 .taken))
+
+scope-size-requires : tie.Need-scope-size-requires
+scope-size-requires c κs =
+    let a = c .before .before .before .before .before .args in
+    let n = c .before .refused in
+    let k = accepted (a .h) (a .table .now) (a .source) (a .scope) (a .room .now) (sym (n .ensures) ∙ c .if1 .left) in
+    (k .sound .is-valid, low (a .h) (a .table .now) (a .source) (a .scope) (a .room .now) k _ refl)
+
+cast-bytes : tie.Need-cast-bytes
+cast-bytes c = search needs
+
+cast-bytes-2 : tie.Need-cast-bytes-2
+cast-bytes-2 c = search needs
+
+add-bytes : tie.Need-add-bytes
+add-bytes c = search needs
+
+mul-bytes : tie.Need-mul-bytes
+mul-bytes c = omega (arith, product-fits (c .before .scope-size .result) (c .before .before .before .before .before .before .before .args .h .k) (omega arith) (omega arith))
+
+div-from : tie.Need-div-from
+div-from c =
+    let a = c .before .before .before .before .before .before .before .args in
+    let n = c .before .before .before .refused in
+    let k = accepted (a .h) (a .table .now) (a .source) (a .scope) (a .room .now) (sym (n .ensures) ∙ c .before .before .if1 .left) in
+    let z = c .before .scope-size in
+    size-pos (a .h) (a .table .now) (a .source) (a .scope) (a .room .now) k (z .result) (z .ensures)
+
+cast-from : tie.Need-cast-from
+cast-from c = omega (arith, div-le-self (c .before .before .before .before .before .before .before .args .source) (c .before .scope-size .result))
+
+mul-from : tie.Need-mul-from
+mul-from c =
+    let a = c .before .before .before .before .before .before .before .args in
+    let n = c .before .before .before .refused in
+    let k = accepted (a .h) (a .table .now) (a .source) (a .scope) (a .room .now) (sym (n .ensures) ∙ c .before .before .if1 .left) in
+    let z = c .before .scope-size in
+    omega (arith, run-ends (a .h) (a .table .now) (a .source) (a .scope) (a .room .now) k (z .result) (z .ensures) (z .result * (a .h .k + 1)) refl)
+
+add-to : tie.Need-add-to
+add-to c =
+    let a = c .before .before .before .before .before .before .before .args in
+    let n = c .before .before .before .refused in
+    let k = accepted (a .h) (a .table .now) (a .source) (a .scope) (a .room .now) (sym (n .ensures) ∙ c .before .before .if1 .left) in
+    let z = c .before .scope-size in
+    omega (arith, run-ends (a .h) (a .table .now) (a .source) (a .scope) (a .room .now) k (z .result) (z .ensures) (z .result * (a .h .k + 1)) refl)
+
+rem-origin : tie.Need-rem-origin
+rem-origin c =
+    let a = c .before .before .before .before .before .before .before .args in
+    let n = c .before .before .before .refused in
+    let k = accepted (a .h) (a .table .now) (a .source) (a .scope) (a .room .now) (sym (n .ensures) ∙ c .before .before .if1 .left) in
+    let z = c .before .scope-size in
+    size-pos (a .h) (a .table .now) (a .source) (a .scope) (a .room .now) k (z .result) (z .ensures)
+
+begin-requires : tie.Need-begin-requires
+begin-requires c κs =
+    let a = c .before .before .before .before .before .before .before .before .args in
+    let n = c .before .before .before .before .refused in
+    let k = accepted (a .h) (a .table .now) (a .source) (a .scope) (a .room .now) (sym (n .ensures) ∙ c .before .before .before .if1 .left) in
+    let z = c .before .before .scope-size in
+    (rw (z .ensures) (k .long), origin-low (a .h) (a .table .now) (a .source) (a .scope) (a .room .now) k (z .result) (z .ensures))
+
+sub-run : tie.Need-sub-run
+sub-run c = search needs
+
+part-run-start : tie.Need-part-run-start
+part-run-start c = search needs
+
+part-run-end : tie.Need-part-run-end
+part-run-end c =
+    let a = c .before .before .before .before .before .before .before .before .before .before .before .args in
+    let n = c .before .before .before .before .before .before .before .refused in
+    let k = accepted (a .h) (a .table .now) (a .source) (a .scope) (a .room .now) (sym (n .ensures) ∙ c .before .before .before .before .before .before .if1 .left) in
+    let z = c .before .before .before .before .before .scope-size in
+    omega (arith, run-ends (a .h) (a .table .now) (a .source) (a .scope) (a .room .now) k (z .result) (z .ensures) (z .result * (a .h .k + 1)) refl)
+
+run-requires : tie.Need-run-requires
+run-requires c κs =
+    let a = c .before .before .before .before .before .before .before .before .before .before .before .before .before .args in
+    let n = c .before .before .before .before .before .before .before .before .before .refused in
+    let k = accepted (a .h) (a .table .now) (a .source) (a .scope) (a .room .now) (sym (n .ensures) ∙ c .before .before .before .before .before .before .before .before .if1 .left) in
+    let z = c .before .before .before .before .before .before .before .scope-size in
+    begun-ready (a .h) (a .table .now) (a .source) (a .scope) (a .room .now) k (z .result) (z .ensures) _ (c .before .before .before .before .begin .ensures)
+
+tally-requires : tie.Need-tally-requires
+tally-requires c κs =
+    let a = c .before .before .before .before .before .before .before .before .before .before .before .before .before .before .before .before .before .args in
+    let n = c .before .before .before .before .before .before .before .before .before .before .before .before .before .refused in
+    let k = accepted (a .h) (a .table .now) (a .source) (a .scope) (a .room .now) (sym (n .ensures) ∙ c .before .before .before .before .before .before .before .before .before .before .before .before .if1 .left) in
+    let z = c .before .before .before .before .before .before .before .before .before .before .before .scope-size in
+    room-long (a .h) (a .table .now) (a .source) (a .scope) (a .room .now) k (z .result) (z .ensures) _ (c .before .before .before .before .before .before .before .before .begin .ensures) _ (run-is (a .h) (a .table .now) (a .source) (a .scope) (a .room .now) k (z .result) (z .ensures) (z .result * (a .h .k + 1)) refl) _ (c .before .before .before .run .ensures)
+
+same-length-2 : tie.Need-same-length-2
+same-length-2 c = search needs
+
+returns-2 : tie.Need-returns-2
+returns-2 c =
+    let a = c .before .before .before .before .before .before .before .before .before .before .before .before .before .before .before .before .before .before .args in
+    let n = c .before .before .before .before .before .before .before .before .before .before .before .before .before .before .refused in
+    let k = accepted (a .h) (a .table .now) (a .source) (a .scope) (a .room .now) (sym (n .ensures) ∙ c .before .before .before .before .before .before .before .before .before .before .before .before .before .if1 .left) in
+    let z = c .before .before .before .before .before .before .before .before .before .before .before .before .scope-size in
+    (answer-is (a .h) (a .table .now) (a .source) (a .scope) (a .room .now) k (z .result) (z .ensures) _ (c .before .before .before .before .before .before .before .before .before .begin .ensures) _ (run-is (a .h) (a .table .now) (a .source) (a .scope) (a .room .now) k (z .result) (z .ensures) (z .result * (a .h .k + 1)) refl) _ (c .before .before .before .before .run .ensures) (n .result) (n .ensures) (c .before .before .before .before .before .before .before .before .before .before .before .before .before .if1 .left) (c .tally .result) (c .tally .ensures),
+    room-at-exit (a .h) (a .table .now) (a .source) (a .scope) (a .room .now) k (z .result) (z .ensures) _ (c .before .before .before .before .before .before .before .before .before .begin .ensures) _ (run-is (a .h) (a .table .now) (a .source) (a .scope) (a .room .now) k (z .result) (z .ensures) (z .result * (a .h .k + 1)) refl) _ (c .before .before .before .before .run .ensures) (n .result) (n .ensures) (c .before .before .before .before .before .before .before .before .before .before .before .before .before .if1 .left))
+
+pub broadcast-rounds-spec : {M : Type 1} → statement M
+broadcast-rounds-spec =
+    tie.close
+    (tie.spec
+    refused-requires
+    same-length
+    returns
+    scope-size-requires
+    cast-bytes
+    cast-bytes-2
+    add-bytes
+    mul-bytes
+    div-from
+    cast-from
+    mul-from
+    add-to
+    rem-origin
+    begin-requires
+    sub-run
+    part-run-start
+    part-run-end
+    run-requires
+    tally-requires
+    same-length-2
+    returns-2)

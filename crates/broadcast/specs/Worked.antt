@@ -1,0 +1,3 @@
+-- A broadcast worked out.
+-- Section "Broadcast".
+use mathlib.Core.Path.{_≡_, refl}

@@ -1,0 +1,47 @@
+-- Each answer that the driver is told: a refusal's number, and its other values in order as bytes.
+use mathlib.Core.Bool.{Bool, true, false, not}
+use mathlib.Core.List.{List, [], _∷_}
+use Prim.Native.Nat.{ℕ, _+_}
+use lib.ListN.{take}
+use lib.Dec.{eqb}
+use Rattle.combine.specs.Tests.{pick}
+use Rattle.hall.specs.declared.Hall.{Hall}
+use Rattle.route.specs.declared.Route.{Route}
+use Rattle.frame.specs.declared.Header.{Header}
+use Rattle.frame.specs.declared.Fields.{Fields}
+use Rattle.hall.specs.Rooms.{Outcome}
+use Rattle.driver.specs.Words.{bytesOf}
+
+-- the hall of three numbers
+abbrev pub hallOf : ℕ → ℕ → ℕ → Hall
+hallOf n k b = record { n = n; k = k; b = b }
+
+-- 1 for true, 0 for false
+abbrev pub flagOf : Bool → ℕ
+flagOf b = pick b 1 0
+
+-- a route: its links + 1 uids, without the zeros
+abbrev pub ofRoute : Route → Outcome
+ofRoute a = (a .refusal, bytesOf (take (a .links + 1) (a .uids)))
+
+-- a header: its length in bytes, then its fields in order
+abbrev pub ofHeader : Header → Outcome
+ofHeader a =
+    (a .refusal, bytesOf (
+      a .«header_length» ∷ a .protocol ∷ a .«payload_length» ∷ a .identification ∷ a .retry ∷ a .ttl ∷ a .source ∷ a .destination
+      ∷ flagOf (a .«has_proxy») ∷ a .proxy ∷ []
+    ))
+
+-- the fields to write; there is a proxy where its flag is not 0
+abbrev pub fieldsOf : ℕ → ℕ → ℕ → ℕ → ℕ → ℕ → ℕ → ℕ → ℕ → Fields
+fieldsOf protocol length identification retry ttl source destination flag proxy = record {
+  protocol = protocol;
+  «payload_length» = length;
+  identification = identification;
+  retry = retry;
+  ttl = ttl;
+  source = source;
+  destination = destination;
+  «has_proxy» = not (eqb flag 0);
+  proxy = proxy;
+}

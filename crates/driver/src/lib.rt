@@ -1,0 +1,130 @@
+// The calls for a driver in C: header, route and step, on plain numbers and byte slices.
+ghost use mathlib.Core.Path.{_≡_};
+ghost use mathlib.Core.List.{_++_};
+ghost use Prim.Native.Nat.{_+_, _*_, _≤_};
+ghost use lib.ListN.{length, drop};
+ghost use lib.Seq.{sets};
+ghost use Rattle.route.specs.Answers.{routeBetween};
+ghost use Rattle.frame.specs.Reading.{readFrame};
+ghost use Rattle.frame.specs.Writing.{writeRefusal, roomWritten};
+ghost use Rattle.hall.specs.Rooms.{told, written};
+ghost use Rattle.driver.specs.Words.{bigEndian, bytesOf};
+ghost use Rattle.driver.specs.Outcomes.{hallOf, flagOf, ofRoute, ofHeader, fieldsOf};
+
+use frame::Fields;
+use hall::Hall;
+use hall::refusals::SHORT_ROOM;
+
+// The four bytes of a word at a place of the room.
+fn put_word(room: &mut [u8], at: usize, w: u32)
+    requires { ⌜ at + 4 ≤ length (now room) ⌝ }
+    ensures { λ _. ⌜ now (room .exit) ≡ sets (now (room .entry)) at (bigEndian w) ⌝ }
+{
+    room[at] = (w / 16777216) as u8;
+    room[at + 1] = (w / 65536 % 256) as u8;
+    room[at + 2] = (w / 256 % 256) as u8;
+    room[at + 3] = (w % 256) as u8;
+}
+
+// The words at the start of the room.
+fn put_words(words: &[u32], room: &mut [u8])
+    requires { ⌜ length (now words) * 4 ≤ length (now room) ⌝ }
+    ensures { λ _. ⌜ now (room .exit) ≡ bytesOf (now (words .entry)) ++ drop (length (now (words .entry)) * 4) (now (room .entry)) ⌝ }
+{
+    let mut i: usize = 0;
+    while i < words.len() {
+        put_word(room, i * 4, words[i]);
+        i += 1;
+    }
+}
+
+// An answer: its refusal, and its words in the room where there is none.
+fn tell(number: u32, words: &[u32], room: &mut [u8]) -> u32
+    ensures number { λ r. ⌜ r ≡ told (number, bytesOf (now (words .entry))) (now (room .entry)) ⌝ }
+    ensures room { λ _. ⌜ now (room .exit) ≡ written (number, bytesOf (now (words .entry))) (now (room .entry)) ⌝ }
+{
+    if number != 0 {
+        return number;
+    }
+    if room.len() / 4 < words.len() {
+        return SHORT_ROOM;
+    }
+    put_words(words, room);
+    0
+}
+
+// The route from x to y: its links + 1 uids.
+#[no_mangle]
+pub extern "C" fn tbexlum_route(n: u32, k: u32, b: u32, x: u32, y: u32, room: &mut [u8]) -> u32
+    ensures number { λ r. ⌜ r ≡ told (ofRoute (routeBetween (hallOf n k b) x y)) (now (room .entry)) ⌝ }
+    ensures room { λ _. ⌜ now (room .exit) ≡ written (ofRoute (routeBetween (hallOf n k b) x y)) (now (room .entry)) ⌝ }
+{
+    let a = route::route_between(Hall { n, k, b }, x, y);
+    let uids = a.uids;
+    let count = (a.links as usize) + 1;
+    tell(a.refusal, &uids[..count], room)
+}
+
+// 1 for true, 0 for false.
+fn flag(b: bool) -> u32
+    ensures { λ r. ⌜ r ≡ flagOf b ⌝ }
+{
+    if b {
+        return 1;
+    }
+    0
+}
+
+// A frame's header, read.
+#[no_mangle]
+pub extern "C" fn tbexlum_read_header(frame: &[u8], room: &mut [u8]) -> u32
+    ensures number { λ r. ⌜ r ≡ told (ofHeader (readFrame (now (frame .entry)))) (now (room .entry)) ⌝ }
+    ensures room { λ _. ⌜ now (room .exit) ≡ written (ofHeader (readFrame (now (frame .entry)))) (now (room .entry)) ⌝ }
+{
+    let a = frame::read_frame(frame);
+    let has_proxy = flag(a.has_proxy);
+    let words = [
+        a.header_length,
+        a.protocol,
+        a.payload_length,
+        a.identification,
+        a.retry,
+        a.ttl,
+        a.source,
+        a.destination,
+        has_proxy,
+        a.proxy,
+    ];
+    tell(a.refusal, &words, room)
+}
+
+// A header written to the start of the room; `has_proxy` is 0 where there is no proxy.
+#[no_mangle]
+pub extern "C" fn tbexlum_write_header(
+    protocol: u8,
+    payload_length: u16,
+    identification: u32,
+    retry: u8,
+    ttl: u8,
+    source: u32,
+    destination: u32,
+    has_proxy: u32,
+    proxy: u32,
+    room: &mut [u8],
+) -> u32
+    ensures number { λ r. ⌜ r ≡ writeRefusal (fieldsOf protocol «payload_length» identification retry ttl source destination «has_proxy» proxy) (now (room .entry)) ⌝ }
+    ensures room { λ _. ⌜ now (room .exit) ≡ roomWritten (fieldsOf protocol «payload_length» identification retry ttl source destination «has_proxy» proxy) (now (room .entry)) ⌝ }
+{
+    let fields = Fields {
+        protocol,
+        payload_length,
+        identification,
+        retry,
+        ttl,
+        source,
+        destination,
+        has_proxy: has_proxy != 0,
+        proxy,
+    };
+    frame::write_header(fields, room)
+}

@@ -1,0 +1,188 @@
+//! Calls every public function with any numbers and bytes at all, to show that each of them answers, and as document 01 shapes it.
+
+use crate::forward::{journey, step, Packet};
+use crate::hall::{cell, link, neighbour, sizes, tuple_of, uid_of, Hall};
+use crate::random::Random;
+use crate::route::{route, route_words};
+use crate::{broadcast, frame, local, naive, ports, report, sheet};
+
+/// A number that is small, near a bound, or any at all.
+fn number(random: &mut Random) -> u32 {
+    let bounds = [0u32, 1, 2, 4, 8, 20, 42, 72, 420, 1806, 5256, 27_630_792];
+    match random.below(4) {
+        0 => random.below(9),
+        1 => bounds[random.below(12) as usize].wrapping_sub(random.below(3)),
+        2 => random.below(30_000_000),
+        _ => random.word() >> random.below(32),
+    }
+}
+
+/// A hall, mostly a sound and small one.
+fn hall(random: &mut Random) -> Hall {
+    let halls = naive::small_halls();
+    let mut h = halls[random.below(halls.len() as u32) as usize];
+    match random.below(12) {
+        0 => h.n = number(random),
+        1 => h.k = number(random),
+        2 => h.b = number(random),
+        _ => {}
+    }
+    h
+}
+
+/// A uid, mostly one of the hall.
+fn uid(random: &mut Random, h: Hall) -> u32 {
+    match (random.once_in(12), sizes(h)) {
+        (false, found) if found.refusal == 0 => random.below(naive::servers(h)),
+        _ => number(random),
+    }
+}
+
+/// The longest table made; a larger hall gets one of the wrong length.
+const LONGEST_TABLE: u32 = 10_000;
+
+/// A table for a DCell of the hall, mostly of the right length, of any bytes or mostly code 1.
+fn table(random: &mut Random, h: Hall, level: u32) -> Vec<u8> {
+    let right = match sizes(h).refusal {
+        0 => LONGEST_TABLE.min(naive::size(h.n, level) * (h.k + 1)),
+        _ => random.below(100),
+    };
+    let length = if random.once_in(12) {
+        random.below(right + 3)
+    } else {
+        right
+    };
+    let faults = [0, 20, 3, 1][random.below(4) as usize];
+    naive::table(random, length as usize, faults)
+}
+
+fn packet(random: &mut Random, h: Hall) -> Packet {
+    Packet {
+        dst: uid(random, h),
+        has_proxy: random.once_in(2),
+        proxy: uid(random, h),
+        retry: random.byte() % 18,
+        ttl: random.byte(),
+    }
+}
+
+#[test]
+fn hall_and_route_calls_answer_any_numbers() {
+    let mut random = Random::new(101);
+    for _ in 0..50_000 {
+        let h = hall(&mut random);
+        let (x, y) = (uid(&mut random, h), uid(&mut random, h));
+        let (level, p, q) = (
+            number(&mut random),
+            number(&mut random),
+            number(&mut random),
+        );
+        let tuple = [(); 4].map(|()| number(&mut random));
+        assert!([0, 1].contains(&sizes(h).refusal));
+        assert!([0, 1, 3].contains(&uid_of(h, tuple).refusal));
+        assert!([0, 1, 2].contains(&tuple_of(h, x).refusal));
+        assert!([0, 1, 2, 3].contains(&cell(h, x, level).refusal));
+        assert!([0, 1, 2, 3].contains(&neighbour(h, x, level).refusal));
+        assert!([0, 1, 2, 3].contains(&link(h, x, level, p, q).refusal));
+        let answer = route(h, x, y);
+        let mut room = [0xEE; 64];
+        let length = random.below(65) as usize;
+        let refusal = route_words(h, x, y, &mut room[..length]);
+        match answer.refusal {
+            0 => assert_eq!(refusal == 6, length < 4 * (answer.links as usize + 1)),
+            other => assert_eq!(refusal, other),
+        }
+        assert!(refusal == 0 || room == [0xEE; 64]);
+    }
+}
+
+#[test]
+fn table_calls_answer_any_numbers_and_bytes() {
+    let mut random = Random::new(102);
+    for _ in 0..20_000 {
+        let h = hall(&mut random);
+        let x = uid(&mut random, h);
+        let whole = table(&mut random, h, h.k);
+        let own = table(&mut random, h, h.b);
+        let checked = ports::check(h, &whole);
+        assert!([0, 1, 4, 5].contains(&checked.refusal));
+        assert!(checked.refusal == 5 || checked.place == 0);
+        let (refusal, part) = ports::part(h, &whole, x);
+        assert_eq!(refusal == 0, !part.is_empty());
+        let away = local::distances(h, x, &own);
+        assert!(away.refusal == 0 || away.distance == [0; 72]);
+        let hop = local::next_hop(h, x, uid(&mut random, h), &own);
+        assert!(hop.found == 1 || hop.uid == 0);
+        let turn = step(h, x, packet(&mut random, h), &own);
+        assert!(turn.ending == 0 || turn.next == 0);
+        let trip = journey(h, x, packet(&mut random, h), &whole);
+        assert_eq!(trip.refusal == 0, (1..=5).contains(&trip.ending));
+        let mut room = vec![7; random.below(1900) as usize];
+        let scope = random.below(4);
+        let told = broadcast::broadcast(h, x, scope, &whole, &mut room);
+        assert_eq!(told.refusal == 0, told.reached > 0);
+        assert!(told.refusal == 0 || room.iter().all(|&round| round == 7));
+    }
+}
+
+#[test]
+fn frame_calls_answer_any_bytes_and_fields() {
+    let mut random = Random::new(103);
+    for _ in 0..50_000 {
+        let fields = frame::Fields {
+            protocol: random.byte(),
+            payload_length: random.word() as u16 >> random.below(16),
+            identification: random.word(),
+            retry: random.byte() % 18,
+            ttl: random.byte(),
+            source: random.word() >> random.below(3),
+            destination: random.word() | 0x0FFF_FFFF >> random.below(2),
+            has_proxy: random.once_in(2),
+            proxy: random.word() >> random.below(3),
+        };
+        let mut bytes = vec![0xEE; random.below(80) as usize];
+        let refusal = frame::write(fields, &mut bytes);
+        assert!(refusal == 0 || bytes.iter().all(|&byte| byte == 0xEE));
+        for _ in 0..random.below(2) {
+            if let Some(byte) = bytes.get_mut(random.below(24) as usize) {
+                *byte = random.byte();
+            }
+        }
+        let header = frame::read(&bytes);
+        assert!([0, 7, 8, 9, 11].contains(&header.refusal));
+        assert_eq!(frame::payload(&bytes).len() as u32, header.payload_length);
+    }
+}
+
+#[test]
+fn sheet_calls_answer_any_bytes() {
+    let mut random = Random::new(104);
+    for _ in 0..5_000 {
+        let h = hall(&mut random);
+        let codes = table(&mut random, h, h.k);
+        let mut bytes = vec![0, 0, 0, 3, h.n as u8, h.k as u8, h.b as u8];
+        bytes.extend((codes.len() as u32).to_be_bytes());
+        bytes.extend(codes);
+        let packets = random.below(5);
+        bytes.extend(packets.to_be_bytes());
+        for _ in 0..packets {
+            bytes.extend(uid(&mut random, h).to_be_bytes());
+            bytes.extend(uid(&mut random, h).to_be_bytes());
+            bytes.extend([random.byte() % 17, random.byte()]);
+        }
+        let read = sheet::read(&bytes);
+        let first = sheet::packet(&bytes, 0);
+        let text = report::trace(&bytes);
+        if read.refusal != 0 {
+            assert_eq!((first.refusal, first.place), (read.refusal, read.place));
+            assert!(sheet::codes(&bytes).is_empty());
+            let line = format!("REFUSED {} {}\n", read.refusal, read.place);
+            assert_eq!(text, line.into_bytes());
+            continue;
+        }
+        assert_eq!(first.refusal, if read.packets == 0 { 3 } else { 0 });
+        let lines = text.iter().filter(|&&byte| byte == b'\n').count();
+        assert_eq!(lines, read.packets as usize + 2);
+        assert_eq!(text.last(), Some(&b'\n'));
+    }
+}

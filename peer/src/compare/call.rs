@@ -1,0 +1,43 @@
+//! What the comparison and the benchmark know of one call.
+
+use std::fmt::Debug;
+
+use peer::random::Random;
+
+/// A call that both implementations have.
+pub trait Call {
+    /// What the call is given, its rooms apart.
+    type Input: Debug + 'static;
+    /// What the call is lent to write to: a `Room`, or several as a tuple.
+    type Rooms: Clone + PartialEq + Debug;
+
+    /// The name of the call in the tables.
+    const NAME: &'static str;
+    /// Every number that the call can return, 0 included; a comparison has to meet each of them.
+    const NUMBERS: &'static [u32];
+    /// The random inputs of a short comparison, those of `edges` apart.
+    const INPUTS: u32 = 200_000;
+    /// The inputs of each case; fewer for a slow call.
+    const MEASURED: usize = 1024;
+    /// What is measured, a line of the benchmark each.
+    const CASES: &'static [Case<Self::Input>];
+
+    /// Any input: sound, at an edge, or damaged.
+    fn any(random: &mut Random) -> Self::Input;
+    /// The inputs that every comparison tries.
+    fn edges() -> impl Iterator<Item = Self::Input>;
+    /// Rooms for one input, some of them too short, filled at random.
+    fn rooms(input: &Self::Input, random: &mut Random) -> Self::Rooms;
+    /// Rooms that are long enough for every input of the cases.
+    fn ample_rooms() -> Self::Rooms;
+    /// The number that Rattle's side returns; its rooms are left as it leaves them.
+    fn rattle(input: &Self::Input, rooms: &mut Self::Rooms) -> u32;
+    /// The number that the peer's side returns; its rooms are left as it leaves them.
+    fn peer(input: &Self::Input, rooms: &mut Self::Rooms) -> u32;
+}
+
+/// A kind of sound input to measure a call with.
+pub struct Case<Input> {
+    pub name: &'static str,
+    pub draw: fn(&mut Random) -> Input,
+}

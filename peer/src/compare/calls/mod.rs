@@ -1,0 +1,59 @@
+//! The calls that are compared and measured, a module each.
+//!
+//! To add a call: declare it in `rattle.rs`, with a pointer and a length for each slice, and wrap it there; write its module here,
+//! an `impl Call` like the others; add its line to `CALLS`.
+
+mod cell;
+mod link;
+mod neighbour;
+mod sizes;
+mod tuple;
+mod uid;
+
+use super::bench::{self, Measure};
+use super::call::Call;
+use super::tally::{self, Effort, Tally};
+
+/// A call with its types hidden, to stand in one list with the others.
+pub struct Listed {
+    pub name: &'static str,
+    pub numbers: &'static [u32],
+    pub compare: fn(seed: u64, effort: Effort) -> Tally,
+    pub measure: fn(seed: u64) -> Vec<Measure>,
+}
+
+/// Every call, in the order of document 01.
+pub const CALLS: &[Listed] = &[
+    listed::<sizes::Sizes>(),
+    listed::<uid::Uid>(),
+    listed::<tuple::Tuple>(),
+    listed::<cell::Cell>(),
+    listed::<neighbour::Neighbour>(),
+    listed::<link::Link>(),
+];
+
+/// The longest room that hall's calls are lent, longer than any of their answers.
+const HALL_ROOM: usize = 6;
+
+/// A call as it stands in the list.
+const fn listed<C: Call>() -> Listed {
+    Listed {
+        name: C::NAME,
+        numbers: C::NUMBERS,
+        compare: tally::compare::<C>,
+        measure: bench::measure::<C>,
+    }
+}
+
+#[cfg(test)]
+mod tests {
+    use super::*;
+
+    #[test]
+    fn no_two_calls_have_one_name() {
+        for (place, call) in CALLS.iter().enumerate() {
+            let before = &CALLS[..place];
+            assert!(before.iter().all(|other| other.name != call.name));
+        }
+    }
+}

@@ -1,0 +1,567 @@
+//! The header of a frame: reading it, finding the payload behind it, and writing it.
+
+use crate::forward::MOST_RETRY;
+use crate::refusal;
+
+/// The one version.
+pub const VERSION: u8 = 1;
+/// The header words without a proxy.
+pub const PLAIN_WORDS: u8 = 5;
+/// The header words with a proxy.
+pub const PROXY_WORDS: u8 = 6;
+/// The header bytes without a proxy.
+pub const PLAIN_BYTES: usize = PLAIN_WORDS as usize * WORD;
+/// The header bytes with a proxy.
+pub const PROXY_BYTES: usize = PROXY_WORDS as usize * WORD;
+/// The flag PF.
+pub const PROXY_FLAG: u8 = 1;
+
+/// The bytes of a word.
+const WORD: usize = 4;
+/// The top bit of an address: 0 for a server.
+const GROUP_BIT: u32 = 1 << 31;
+/// The last 28 bits of an address: all ones in a broadcast.
+const BROADCAST_BITS: u32 = (1 << 28) - 1;
+/// The bits of the first word that hold the payload length.
+const LENGTH_BITS: u32 = 0xFFFF;
+/// The bits of the third word that hold the checksum.
+const CHECKSUM_BITS: u32 = 0xFFFF;
+/// The offset of the byte that holds retry and flags.
+const RETRY_AT: usize = 8;
+/// The bits of that byte that hold the flags.
+const FLAG_BITS: u8 = 0xF;
+/// The bits by which version and retry stand above what shares their byte.
+const NIBBLE: u32 = 4;
+
+/// The fields of a frame's header as read.
+#[derive(Debug, Clone, Copy, PartialEq, Eq)]
+pub struct Header {
+    pub refusal: u32,
+    pub protocol: u32,
+    pub payload_length: u32,
+    pub identification: u32,
+    pub retry: u32,
+    pub ttl: u32,
+    pub source: u32,
+    pub destination: u32,
+    pub has_proxy: bool,
+    pub proxy: u32,
+    pub header_length: u32,
+}
+
+/// The fields of a header to write; the proxy counts only where there is one.
+#[derive(Debug, Clone, Copy, PartialEq, Eq)]
+pub struct Fields {
+    pub protocol: u8,
+    pub payload_length: u16,
+    pub identification: u32,
+    pub retry: u8,
+    pub ttl: u8,
+    pub source: u32,
+    pub destination: u32,
+    pub has_proxy: bool,
+    pub proxy: u32,
+}
+
+/// Reads the header of a frame.
+pub fn read(frame: &[u8]) -> Header {
+    match parse(frame) {
+        Ok(header) => header,
+        Err(refusal) => Header {
+            refusal,
+            protocol: 0,
+            payload_length: 0,
+            identification: 0,
+            retry: 0,
+            ttl: 0,
+            source: 0,
+            destination: 0,
+            has_proxy: false,
+            proxy: 0,
+            header_length: 0,
+        },
+    }
+}
+
+/// The payload of a frame; empty for a refused one.
+pub fn payload(frame: &[u8]) -> &[u8] {
+    let Ok(header) = parse(frame) else {
+        return &[];
+    };
+    let start = header.header_length as usize;
+    let end = start + header.payload_length as usize;
+    frame.get(start..end).unwrap_or(&[])
+}
+
+/// Writes a header to the start of the room; answers the refusal.
+pub fn write(fields: Fields, room: &mut [u8]) -> u32 {
+    if fields.retry > MOST_RETRY {
+        return refusal::FIELD;
+    }
+    let proxy = fields.has_proxy.then_some(fields.proxy);
+    if !addresses_sound(fields.source, fields.destination, proxy) {
+        return refusal::ADDRESS;
+    }
+    let words = header_words(&fields);
+    let length = if fields.has_proxy {
+        PROXY_BYTES
+    } else {
+        PLAIN_BYTES
+    };
+    let Some(written) = room.get_mut(..length) else {
+        return refusal::ROOM;
+    };
+    for (bytes, word) in written.chunks_exact_mut(WORD).zip(words) {
+        bytes.copy_from_slice(&word.to_be_bytes());
+    }
+    refusal::NONE
+}
+
+/// The identification after one; 0 after the last.
+pub fn next_identification(identification: u32) -> u32 {
+    identification.wrapping_add(1)
+}
+
+/// The header of a sound frame, else the refusal.
+#[inline]
+fn parse(frame: &[u8]) -> Result<Header, u32> {
+    let plain: &[u8; PLAIN_BYTES] = frame.first_chunk().ok_or(refusal::SHORT_FRAME)?;
+    let flags = plain[RETRY_AT] & FLAG_BITS;
+    let has_proxy = proxy_told(plain[0], flags).ok_or(refusal::FIELD)?;
+    let (proxy, header_length) = if has_proxy {
+        (sixth_word(frame)?, PROXY_BYTES)
+    } else {
+        (0, PLAIN_BYTES)
+    };
+    let words = [0, 1, 2, 3, 4].map(|i| word(plain, i * WORD));
+    let [first, identification, third, source, destination] = words;
+    let given = third & CHECKSUM_BITS;
+    let blank = third & !CHECKSUM_BITS;
+    if checksum([first, identification, blank, source, destination, proxy]) != given {
+        return Err(refusal::CHECKSUM);
+    }
+    if !addresses_sound(source, destination, has_proxy.then_some(proxy)) {
+        return Err(refusal::ADDRESS);
+    }
+    let payload_length = first & LENGTH_BITS;
+    if frame.len() - header_length < payload_length as usize {
+        return Err(refusal::SHORT_FRAME);
+    }
+    let [_, protocol, ..] = first.to_be_bytes();
+    let [retry_and_flags, ttl, ..] = third.to_be_bytes();
+    Ok(Header {
+        refusal: refusal::NONE,
+        protocol: u32::from(protocol),
+        payload_length,
+        identification,
+        retry: u32::from(retry_and_flags >> NIBBLE),
+        ttl: u32::from(ttl),
+        source,
+        destination,
+        has_proxy,
+        proxy,
+        header_length: header_length as u32,
+    })
+}
+
+/// Whether the version and DHL byte and the flags tell of a proxy; none where they break the rule.
+#[inline]
+fn proxy_told(version_and_words: u8, flags: u8) -> Option<bool> {
+    const PLAIN: (u8, u8) = (VERSION << NIBBLE | PLAIN_WORDS, 0);
+    const PROXY: (u8, u8) = (VERSION << NIBBLE | PROXY_WORDS, PROXY_FLAG);
+    match (version_and_words, flags) {
+        PLAIN => Some(false),
+        PROXY => Some(true),
+        _ => None,
+    }
+}
+
+/// The word behind the five that every header has.
+#[inline]
+fn sixth_word(frame: &[u8]) -> Result<u32, u32> {
+    let long: &[u8; PROXY_BYTES] = frame.first_chunk().ok_or(refusal::SHORT_FRAME)?;
+    Ok(word(long, PLAIN_BYTES))
+}
+
+/// The big-endian word at an offset that the bytes hold.
+#[inline]
+fn word<const LENGTH: usize>(bytes: &[u8; LENGTH], at: usize) -> u32 {
+    u32::from_be_bytes([bytes[at], bytes[at + 1], bytes[at + 2], bytes[at + 3]])
+}
+
+/// The checksum of RFC 791 over header words whose checksum field is zero; a proxy of 0 adds nothing.
+#[inline]
+fn checksum(words: [u32; 6]) -> u32 {
+    let sum: u64 = words.iter().map(|&word| u64::from(word)).sum();
+    let sum = (sum & 0xFFFF) + ((sum >> 16) & 0xFFFF) + (sum >> 32);
+    let sum = (sum & 0xFFFF) + (sum >> 16);
+    let sum = (sum & 0xFFFF) + (sum >> 16);
+    !(sum as u32) & CHECKSUM_BITS
+}
+
+/// Whether source and proxy are servers and the destination is a server, or a broadcast without a proxy.
+#[inline]
+fn addresses_sound(source: u32, destination: u32, proxy: Option<u32>) -> bool {
+    let server = |address: u32| address & GROUP_BIT == 0;
+    let broadcast = !server(destination) && destination & BROADCAST_BITS == BROADCAST_BITS;
+    match proxy {
+        None => server(source) && (server(destination) || broadcast),
+        Some(proxy) => server(source) && server(destination) && server(proxy),
+    }
+}
+
+/// The words of a sound header, checksum included; the sixth is 0 without a proxy.
+#[inline]
+fn header_words(fields: &Fields) -> [u32; 6] {
+    let (words, flags, proxy) = if fields.has_proxy {
+        (PROXY_WORDS, PROXY_FLAG, fields.proxy)
+    } else {
+        (PLAIN_WORDS, 0, 0)
+    };
+    let [length_high, length_low] = fields.payload_length.to_be_bytes();
+    let first = [
+        VERSION << NIBBLE | words,
+        fields.protocol,
+        length_high,
+        length_low,
+    ];
+    let third = [fields.retry << NIBBLE | flags, fields.ttl, 0, 0];
+    let mut header = [
+        u32::from_be_bytes(first),
+        fields.identification,
+        u32::from_be_bytes(third),
+        fields.source,
+        fields.destination,
+        proxy,
+    ];
+    header[2] |= checksum(header);
+    header
+}
+
+#[cfg(test)]
+mod tests {
+    use super::*;
+    use crate::random::Random;
+
+    const SAMPLE: [u8; 20] = [
+        0x15, 0x06, 0, 0, 0, 0, 0, 1, 0x50, 0x0F, 0x9A, 0xD6, 0, 0, 0, 0, 0, 0, 0, 0x13,
+    ];
+
+    const SAMPLE_FIELDS: Fields = Fields {
+        protocol: 6,
+        payload_length: 0,
+        identification: 1,
+        retry: 5,
+        ttl: 15,
+        source: 0,
+        destination: 19,
+        has_proxy: false,
+        proxy: 0,
+    };
+
+    const NOTHING: Header = Header {
+        refusal: 0,
+        protocol: 0,
+        payload_length: 0,
+        identification: 0,
+        retry: 0,
+        ttl: 0,
+        source: 0,
+        destination: 0,
+        has_proxy: false,
+        proxy: 0,
+        header_length: 0,
+    };
+
+    fn refused(refusal: u32) -> Header {
+        Header { refusal, ..NOTHING }
+    }
+
+    /// The header that fields read back to.
+    fn expected(fields: &Fields) -> Header {
+        Header {
+            refusal: 0,
+            protocol: fields.protocol.into(),
+            payload_length: fields.payload_length.into(),
+            identification: fields.identification,
+            retry: fields.retry.into(),
+            ttl: fields.ttl.into(),
+            source: fields.source,
+            destination: fields.destination,
+            has_proxy: fields.has_proxy,
+            proxy: if fields.has_proxy { fields.proxy } else { 0 },
+            header_length: if fields.has_proxy { 24 } else { 20 },
+        }
+    }
+
+    /// Sums 16-bit words one by one with end-around carry.
+    fn literal_checksum(header: &[u8]) -> u16 {
+        let mut sum = 0u16;
+        for (i, pair) in header.chunks(2).enumerate() {
+            let word = if i == 5 {
+                0
+            } else {
+                u16::from_be_bytes([pair[0], pair[1]])
+            };
+            let (added, carry) = sum.overflowing_add(word);
+            sum = added + u16::from(carry);
+        }
+        !sum
+    }
+
+    /// Puts the right checksum into a header.
+    fn sealed(mut frame: Vec<u8>, header_length: usize) -> Vec<u8> {
+        let sum = literal_checksum(&frame[..header_length]);
+        frame[10..12].copy_from_slice(&sum.to_be_bytes());
+        frame
+    }
+
+    fn any_fields(random: &mut Random) -> Fields {
+        let has_proxy = random.once_in(2);
+        let destination = if random.once_in(3) && !has_proxy {
+            0x8FFF_FFFF | random.word()
+        } else {
+            random.word() >> 1
+        };
+        Fields {
+            protocol: random.byte(),
+            payload_length: random.word() as u16,
+            identification: random.word(),
+            retry: random.byte() % 16,
+            ttl: random.byte(),
+            source: random.word() >> 1,
+            destination,
+            has_proxy,
+            proxy: random.word() >> 1,
+        }
+    }
+
+    #[test]
+    fn the_sample_header_reads_to_its_fields_and_they_write_it() {
+        assert_eq!(read(&SAMPLE), expected(&SAMPLE_FIELDS));
+        let mut room = [0xEE; 22];
+        assert_eq!(write(SAMPLE_FIELDS, &mut room), 0);
+        assert_eq!(room[..20], SAMPLE);
+        assert_eq!(room[20..], [0xEE; 2]);
+    }
+
+    #[test]
+    fn the_identification_after_the_last_is_0() {
+        assert_eq!(next_identification(0), 1);
+        assert_eq!(next_identification(4_294_967_295), 0);
+    }
+
+    #[test]
+    fn frames_under_20_bytes_get_7() {
+        for length in 0..20 {
+            assert_eq!(read(&SAMPLE[..length]), refused(7));
+        }
+        assert_eq!(read(&[0xFF; 19]), refused(7));
+    }
+
+    #[test]
+    fn every_first_byte_and_flag_but_two_pairs_get_8() {
+        for first in 0..=255 {
+            for flags in 0..16 {
+                let mut frame = SAMPLE.to_vec();
+                frame.extend([0; 4]);
+                frame[0] = first;
+                frame[8] = 0x50 | flags;
+                let sound = (first, flags) == (0x15, 0) || (first, flags) == (0x16, 1);
+                let header = read(&sealed(frame, if first == 0x16 { 24 } else { 20 }));
+                assert_eq!(header.refusal, if sound { 0 } else { 8 });
+            }
+        }
+    }
+
+    #[test]
+    fn a_header_of_six_words_in_under_24_bytes_gets_7_before_the_checksum() {
+        let mut frame = [0; 23];
+        frame[0] = 0x16;
+        frame[8] = 0x01;
+        assert_eq!(read(&frame), refused(7));
+        assert_eq!(read(&[&frame[..], &[9]].concat()), refused(9));
+    }
+
+    #[test]
+    fn every_other_checksum_gets_9() {
+        let mut frame = SAMPLE;
+        for sum in 0..=0xFFFFu16 {
+            frame[10..12].copy_from_slice(&sum.to_be_bytes());
+            let refusal = if sum == 0x9AD6 { 0 } else { 9 };
+            assert_eq!(read(&frame).refusal, refusal);
+        }
+    }
+
+    #[test]
+    fn a_checksum_of_ffff_where_0000_is_due_gets_9() {
+        let fields = Fields {
+            identification: 0x9AD6 + 1,
+            ..SAMPLE_FIELDS
+        };
+        let mut frame = [0; 20];
+        assert_eq!(write(fields, &mut frame), 0);
+        assert_eq!(frame[10..12], [0, 0]);
+        assert_eq!(read(&frame).refusal, 0);
+        frame[10..12].copy_from_slice(&[0xFF, 0xFF]);
+        assert_eq!(read(&frame), refused(9));
+    }
+
+    #[test]
+    fn a_sum_that_carries_twice_has_the_literal_checksum() {
+        let fields = Fields {
+            identification: u32::MAX,
+            source: 0x4D75_8000,
+            destination: 0x4D75_8000,
+            ..SAMPLE_FIELDS
+        };
+        let mut frame = [0; 20];
+        assert_eq!(write(fields, &mut frame), 0);
+        assert_eq!(frame[10..12], literal_checksum(&frame).to_be_bytes());
+        assert_eq!(read(&frame), expected(&fields));
+    }
+
+    #[test]
+    fn address_kinds_outside_the_rule_get_11_in_reading_and_writing() {
+        let server = 0x7FFF_FFFF;
+        let broadcast = 0x9FFF_FFFF;
+        let multicast = 0x9FFF_FFFE;
+        let cases = [
+            (server, server, None, 0),
+            (server, broadcast, None, 0),
+            (server, multicast, None, 11),
+            (server, 0x8000_0000, None, 11),
+            (broadcast, server, None, 11),
+            (multicast, server, None, 11),
+            (server, server, Some(server), 0),
+            (server, server, Some(broadcast), 11),
+            (server, broadcast, Some(server), 11),
+            (broadcast, server, Some(server), 11),
+        ];
+        for (source, destination, proxy, refusal) in cases {
+            let fields = Fields {
+                source,
+                destination,
+                has_proxy: proxy.is_some(),
+                proxy: proxy.unwrap_or(multicast),
+                ..SAMPLE_FIELDS
+            };
+            let mut room = [0xEE; 24];
+            assert_eq!(write(fields, &mut room), refusal);
+            assert_eq!(room == [0xEE; 24], refusal != 0);
+            let mut frame = vec![0x15, 6, 0, 0, 0, 0, 0, 1, 0x50, 15, 0, 0];
+            frame.extend(source.to_be_bytes());
+            frame.extend(destination.to_be_bytes());
+            if let Some(proxy) = proxy {
+                frame[0] = 0x16;
+                frame[8] = 0x51;
+                frame.extend(proxy.to_be_bytes());
+            }
+            let length = frame.len();
+            let frame = sealed(frame, length);
+            assert_eq!(read(&frame).refusal, refusal);
+            if refusal == 0 {
+                assert_eq!(frame, room[..length]);
+            }
+        }
+    }
+
+    #[test]
+    fn a_broadcast_of_each_of_the_eight_scopes_is_sound() {
+        for scope in 0..8 {
+            let fields = Fields {
+                destination: 0x8FFF_FFFF | scope << 28,
+                ..SAMPLE_FIELDS
+            };
+            let mut room = [0; 20];
+            assert_eq!(write(fields, &mut room), 0);
+            assert_eq!(read(&room), expected(&fields));
+        }
+    }
+
+    #[test]
+    fn a_payload_shorter_than_told_gets_7_and_later_bytes_are_padding() {
+        let fields = Fields {
+            payload_length: 3,
+            ..SAMPLE_FIELDS
+        };
+        let mut frame = [0; 26];
+        assert_eq!(write(fields, &mut frame), 0);
+        frame[20..].copy_from_slice(&[1, 2, 3, 4, 5, 6]);
+        for length in 20..23 {
+            assert_eq!(read(&frame[..length]), refused(7));
+            assert!(payload(&frame[..length]).is_empty());
+        }
+        for length in 23..=26 {
+            assert_eq!(read(&frame[..length]), expected(&fields));
+            assert_eq!(payload(&frame[..length]), [1, 2, 3]);
+        }
+    }
+
+    #[test]
+    fn address_kinds_come_before_a_short_payload_and_after_the_checksum() {
+        let mut frame = SAMPLE.to_vec();
+        frame[3] = 9;
+        frame[12] = 0x80;
+        assert_eq!(read(&frame), refused(9));
+        assert_eq!(read(&sealed(frame, 20)), refused(11));
+    }
+
+    #[test]
+    fn writing_refuses_in_order_and_leaves_the_room_as_lent() {
+        let mut room = [0xEE; 19];
+        let wrong = Fields {
+            retry: 16,
+            source: u32::MAX,
+            ..SAMPLE_FIELDS
+        };
+        assert_eq!(write(wrong, &mut room), 8);
+        assert_eq!(write(Fields { retry: 15, ..wrong }, &mut room), 11);
+        assert_eq!(write(SAMPLE_FIELDS, &mut room), 6);
+        assert_eq!(room, [0xEE; 19]);
+        let proxied = Fields {
+            has_proxy: true,
+            ..SAMPLE_FIELDS
+        };
+        let mut room = [0xEE; 23];
+        assert_eq!(write(proxied, &mut room), 6);
+        assert_eq!(room, [0xEE; 23]);
+    }
+
+    #[test]
+    fn what_is_written_reads_back_and_has_the_literal_checksum() {
+        let mut random = Random::new(791);
+        for _ in 0..20_000 {
+            let fields = any_fields(&mut random);
+            let mut frame = vec![0xEE; 24 + usize::from(fields.payload_length)];
+            assert_eq!(write(fields, &mut frame), 0);
+            let header = read(&frame);
+            assert_eq!(header, expected(&fields));
+            let length = header.header_length as usize;
+            let sum = literal_checksum(&frame[..length]);
+            assert_eq!(frame[10..12], sum.to_be_bytes());
+            assert!(frame[length..].iter().all(|&byte| byte == 0xEE));
+            assert_eq!(payload(&frame).len(), usize::from(fields.payload_length));
+            assert_ne!(sum, 0xFFFF);
+        }
+    }
+
+    #[test]
+    fn a_damaged_bit_is_always_refused() {
+        let mut random = Random::new(1071);
+        for _ in 0..500 {
+            let mut frame = [0; 24];
+            let fields = Fields {
+                payload_length: 0,
+                ..any_fields(&mut random)
+            };
+            assert_eq!(write(fields, &mut frame), 0);
+            let length = if fields.has_proxy { 24 } else { 20 };
+            for bit in 0..length * 8 {
+                frame[bit / 8] ^= 1 << (bit % 8);
+                assert_ne!(read(&frame[..length]).refusal, 0);
+                frame[bit / 8] ^= 1 << (bit % 8);
+            }
+        }
+    }
+}

@@ -1,0 +1,120 @@
+//! Compares the proved calls with the separate implementation, and measures the one against the other.
+
+#![deny(unsafe_code)]
+
+mod compare;
+#[allow(unsafe_code)]
+mod rattle;
+
+use std::env;
+use std::process::ExitCode;
+use std::time::{SystemTime, UNIX_EPOCH};
+
+use compare::{bench, tally::Effort};
+
+/// How the program is called.
+const USAGE: &str = "\
+usage: peer compare [--seed S] [--long]   compare every call on random inputs
+       peer bench [--seed S]              measure every call against the peer";
+/// The exit status of a call that the usage does not allow.
+const BAD_USAGE: u8 = 2;
+
+/// What the command line asks for, with the seed if it names one.
+#[derive(Debug, PartialEq, Eq)]
+enum Work {
+    Compare { seed: Option<u64>, effort: Effort },
+    Bench { seed: Option<u64> },
+}
+
+fn main() -> ExitCode {
+    let words: Vec<String> = env::args().skip(1).collect();
+    match parse(&words) {
+        Some(Work::Compare { seed, effort }) => {
+            if !compare::run(seed.unwrap_or_else(fresh_seed), effort) {
+                return ExitCode::FAILURE;
+            }
+        }
+        Some(Work::Bench { seed }) => bench::run(seed.unwrap_or_else(fresh_seed)),
+        None => {
+            eprintln!("{USAGE}");
+            return ExitCode::from(BAD_USAGE);
+        }
+    }
+    ExitCode::SUCCESS
+}
+
+/// The work that the words ask for; none where they are not as the usage says.
+fn parse(words: &[String]) -> Option<Work> {
+    let (name, mut options) = words.split_first()?;
+    let mut seed = None;
+    let mut effort = Effort::Short;
+    while let Some((option, behind)) = options.split_first() {
+        options = match (option.as_str(), behind.split_first()) {
+            ("--seed", Some((number, behind))) => {
+                seed = Some(number.parse().ok()?);
+                behind
+            }
+            ("--long", _) if name == "compare" => {
+                effort = Effort::Long;
+                behind
+            }
+            _ => return None,
+        };
+    }
+    match name.as_str() {
+        "compare" => Some(Work::Compare { seed, effort }),
+        "bench" => Some(Work::Bench { seed }),
+        _ => None,
+    }
+}
+
+/// A seed from the clock.
+fn fresh_seed() -> u64 {
+    let since = SystemTime::now().duration_since(UNIX_EPOCH);
+    since.map_or(0, |time| time.as_nanos() as u64)
+}
+
+#[cfg(test)]
+mod tests {
+    use super::*;
+
+    fn parsed(line: &str) -> Option<Work> {
+        let words: Vec<String> = line.split_whitespace().map(str::to_owned).collect();
+        parse(&words)
+    }
+
+    #[test]
+    fn a_seed_and_the_long_form_are_taken_in_any_order() {
+        let asked = |seed, effort| Some(Work::Compare { seed, effort });
+        assert_eq!(parsed("compare"), asked(None, Effort::Short));
+        assert_eq!(parsed("compare --seed 7"), asked(Some(7), Effort::Short));
+        assert_eq!(
+            parsed("compare --long --seed 7"),
+            asked(Some(7), Effort::Long)
+        );
+        assert_eq!(
+            parsed("compare --seed 7 --long"),
+            asked(Some(7), Effort::Long)
+        );
+        assert_eq!(
+            parsed("bench --seed 7"),
+            Some(Work::Bench { seed: Some(7) })
+        );
+    }
+
+    #[test]
+    fn words_outside_the_usage_are_not_taken() {
+        let lines = [
+            "",
+            "measure",
+            "compare --seed",
+            "compare --seed x",
+            "compare --seed -1",
+            "compare short",
+            "bench --long",
+        ];
+        for line in lines {
+            assert_eq!(parsed(line), None, "{line}");
+        }
+    }
+}

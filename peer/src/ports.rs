@@ -1,0 +1,158 @@
+//! The port codes of a hall: the check of a hall table and the part of it that one server's DCell(b) has.
+
+use crate::hall::{self, Hall, Scale};
+use crate::refusal;
+
+/// The one code that counts as up.
+pub const UP: u8 = 1;
+/// The highest known code: held for tests.
+pub const HIGHEST_CODE: u8 = 4;
+
+/// Codes looked at together by the check.
+const BLOCK: usize = 256;
+
+/// Whether a hall table is sound; refusal 5 comes with the index of the first unknown code.
+#[derive(Debug, Clone, Copy, PartialEq, Eq)]
+pub struct TableCheck {
+    pub refusal: u32,
+    pub place: u32,
+}
+
+/// Checks the length and the codes of a hall table.
+pub fn check(h: Hall, table: &[u8]) -> TableCheck {
+    let answer = |refusal, place| TableCheck { refusal, place };
+    let Some(scale) = hall::scale(h) else {
+        return answer(refusal::HALL, 0);
+    };
+    if table.len() != scale.table_length(h.k, h.k) {
+        return answer(refusal::LENGTH, 0);
+    }
+    match first_unknown(table) {
+        Some(place) => answer(refusal::CODE, place as u32),
+        None => answer(refusal::NONE, 0),
+    }
+}
+
+/// The refusal, or the part of the hall table that holds the DCell(b) of a server.
+pub fn part(h: Hall, table: &[u8], uid: u32) -> (u32, &[u8]) {
+    let Some(scale) = hall::scale(h) else {
+        return (refusal::HALL, &[]);
+    };
+    if table.len() != scale.table_length(h.k, h.k) {
+        return (refusal::LENGTH, &[]);
+    }
+    if uid >= scale.size(h.k) {
+        return (refusal::UID, &[]);
+    }
+    let first = scale.first(uid, h.b);
+    (refusal::NONE, cell_part(scale, h.k, table, first, h.b))
+}
+
+/// The part of a hall table for the DCell(level) that begins at server `first`.
+#[inline]
+pub(crate) fn cell_part<'a>(
+    scale: &Scale,
+    k: u32,
+    table: &'a [u8],
+    first: u32,
+    level: u32,
+) -> &'a [u8] {
+    let start = first as usize * (k as usize + 1);
+    let end = start + scale.table_length(level, k);
+    table.get(start..end).unwrap_or(&[])
+}
+
+/// The index of the first unknown code.
+pub(crate) fn first_unknown(codes: &[u8]) -> Option<usize> {
+    let unknown = |&code: &u8| code > HIGHEST_CODE;
+    let any = |block: &[u8]| block.iter().fold(false, |any, code| any | unknown(code));
+    let bad = codes.chunks(BLOCK).position(any)? * BLOCK;
+    let inside = codes.get(bad..)?.iter().position(unknown)?;
+    Some(bad + inside)
+}
+
+#[cfg(test)]
+mod tests {
+    use super::*;
+    use crate::naive;
+    use crate::random::Random;
+
+    const HALL: Hall = Hall { n: 4, k: 1, b: 0 };
+
+    #[test]
+    fn a_table_of_known_codes_is_sound() {
+        let table: Vec<u8> = (0..40).map(|i| i % 5).collect();
+        assert_eq!(
+            check(HALL, &table),
+            TableCheck {
+                refusal: 0,
+                place: 0
+            }
+        );
+    }
+
+    #[test]
+    fn the_first_unknown_code_is_told_by_its_index() {
+        let mut table = [1; 40];
+        for place in (0..40).rev() {
+            table[place] = 5 + place as u8;
+            assert_eq!(
+                check(HALL, &table),
+                TableCheck {
+                    refusal: 5,
+                    place: place as u32
+                }
+            );
+        }
+    }
+
+    #[test]
+    fn the_first_unknown_code_is_found_in_any_block() {
+        let mut random = Random::new(9);
+        for _ in 0..500 {
+            let length = random.below(2000) as usize;
+            let mut codes = vec![4; length];
+            for _ in 0..random.below(3) {
+                if let Some(code) = codes.get_mut(random.below(2000) as usize) {
+                    *code = 5 + random.byte() % 251;
+                }
+            }
+            assert_eq!(first_unknown(&codes), codes.iter().position(|&c| c > 4));
+        }
+    }
+
+    #[test]
+    fn the_length_comes_before_the_codes_and_the_hall_before_both() {
+        let answer = |refusal| TableCheck { refusal, place: 0 };
+        assert_eq!(check(HALL, &[9; 39]), answer(4));
+        assert_eq!(check(HALL, &[9; 41]), answer(4));
+        assert_eq!(check(HALL, &[]), answer(4));
+        assert_eq!(check(Hall { n: 4, k: 1, b: 2 }, &[9; 40]), answer(1));
+    }
+
+    #[test]
+    fn a_part_holds_the_ports_of_exactly_the_own_cell() {
+        let mut random = Random::new(4);
+        for h in naive::small_halls() {
+            let count = naive::servers(h);
+            let ports = h.k as usize + 1;
+            let table: Vec<u8> = (0..count as usize * ports).map(|_| random.byte()).collect();
+            for uid in 0..count {
+                let t = naive::size(h.n, h.b);
+                let start = (uid / t * t) as usize * ports;
+                let own = &table[start..start + t as usize * ports];
+                assert_eq!(part(h, &table, uid), (0, own));
+            }
+        }
+    }
+
+    #[test]
+    fn a_refused_part_is_empty_and_refusals_come_in_order() {
+        let none: &[u8] = &[];
+        assert_eq!(part(Hall { n: 9, k: 1, b: 0 }, &[1; 4], 99), (1, none));
+        assert_eq!(part(HALL, &[1; 39], 99), (4, none));
+        assert_eq!(part(HALL, &[1; 41], 99), (4, none));
+        assert_eq!(part(HALL, &[1; 40], 20), (2, none));
+        assert_eq!(part(HALL, &[7; 40], 19).0, 0);
+    }
+}

@@ -1,0 +1,203 @@
+//! The text of the trace program: every journey of a night sheet, or the sheet's refusal.
+
+use crate::forward::{self, Journey, Packet};
+use crate::sheet::{self, Fault, Parts, SheetPacket, PACKET_BYTES};
+
+/// The room set aside for each packet's line.
+const LINE_ROOM: usize = 64;
+/// The most digits of a number.
+const DIGITS: usize = 10;
+
+/// The whole text of the trace program for a sheet.
+pub fn trace(sheet: &[u8]) -> Vec<u8> {
+    match sheet::parse(sheet) {
+        Ok(parts) => report(&parts),
+        Err(fault) => refused(fault),
+    }
+}
+
+/// The one line of a refused sheet.
+fn refused(fault: Fault) -> Vec<u8> {
+    let mut text = Vec::with_capacity(LINE_ROOM);
+    put_line(&mut text, b"REFUSED", &[fault.refusal, fault.place]);
+    text
+}
+
+/// The lines of a sound sheet.
+fn report(parts: &Parts) -> Vec<u8> {
+    let hall = parts.hall;
+    let mut text = Vec::with_capacity((parts.packets.len() + 2) * LINE_ROOM);
+    put_line(&mut text, b"HALL", &[hall.n, hall.k, hall.b]);
+    for bytes in parts.packets {
+        put_journey(&mut text, parts, bytes);
+    }
+    put_line(&mut text, b"END", &[parts.packets.len() as u32]);
+    text
+}
+
+/// Adds the line of one packet's journey.
+fn put_journey(text: &mut Vec<u8>, parts: &Parts, bytes: &[u8; PACKET_BYTES]) {
+    let told = sheet::packet_of(bytes);
+    let journey = forward::journey(parts.hall, told.source, packet(&told), parts.codes);
+    put_number(text, told.source);
+    put_spaced(text, told.dst);
+    text.extend_from_slice(ending_name(journey.ending));
+    put_spaced(text, journey.links);
+    put_spaced(text, journey.reroutes);
+    text.extend_from_slice(b" :");
+    for &uid in passed(&journey) {
+        put_spaced(text, uid);
+    }
+    text.push(b'\n');
+}
+
+/// The packet to send, which has no proxy.
+fn packet(told: &SheetPacket) -> Packet {
+    Packet {
+        dst: told.dst,
+        has_proxy: false,
+        proxy: 0,
+        retry: told.retry as u8,
+        ttl: told.ttl as u8,
+    }
+}
+
+/// The uids that a journey passed.
+fn passed(journey: &Journey) -> &[u32] {
+    let count = journey.links as usize + 1;
+    journey.uids.get(..count).unwrap_or(&journey.uids)
+}
+
+/// The name of an ending, behind a space.
+fn ending_name(ending: u32) -> &'static [u8] {
+    match ending {
+        forward::DROP_TTL => b" DROP1",
+        forward::DROP_NO_ROUTE => b" DROP2",
+        forward::DROP_RETRY => b" DROP3",
+        forward::DROP_NO_PROXY => b" DROP4",
+        _ => b" DELIVERED",
+    }
+}
+
+/// Adds a line of a word and numbers.
+fn put_line(text: &mut Vec<u8>, word: &[u8], numbers: &[u32]) {
+    text.extend_from_slice(word);
+    for &number in numbers {
+        put_spaced(text, number);
+    }
+    text.push(b'\n');
+}
+
+/// Adds a space and a number.
+#[inline]
+fn put_spaced(text: &mut Vec<u8>, number: u32) {
+    text.push(b' ');
+    put_number(text, number);
+}
+
+/// Adds a number in decimal digits.
+#[inline]
+fn put_number(text: &mut Vec<u8>, number: u32) {
+    let mut digits = [b'0'; DIGITS];
+    let mut start = DIGITS - 1;
+    let mut rest = number;
+    digits[start] += (rest % 10) as u8;
+    while rest >= 10 && start > 0 {
+        rest /= 10;
+        start -= 1;
+        digits[start] += (rest % 10) as u8;
+    }
+    text.extend_from_slice(&digits[start..]);
+}
+
+#[cfg(test)]
+mod tests {
+    use super::*;
+    use crate::random::Random;
+
+    fn sheet(hall: [u8; 3], codes: &[u8], packets: &[[u32; 4]]) -> Vec<u8> {
+        let mut bytes = vec![0, 0, 0, 3];
+        bytes.extend(hall);
+        bytes.extend((codes.len() as u32).to_be_bytes());
+        bytes.extend(codes);
+        bytes.extend((packets.len() as u32).to_be_bytes());
+        for packet in packets {
+            bytes.extend(packet[0].to_be_bytes());
+            bytes.extend(packet[1].to_be_bytes());
+            bytes.extend([packet[2] as u8, packet[3] as u8]);
+        }
+        bytes
+    }
+
+    fn codes(code: u8) -> [u8; 40] {
+        let mut codes = [1; 40];
+        codes[7] = code;
+        codes[33] = code;
+        codes
+    }
+
+    fn text(sheet: &[u8]) -> String {
+        String::from_utf8(trace(sheet)).unwrap()
+    }
+
+    #[test]
+    fn the_sample_sheet_prints_its_three_lines() {
+        let bytes = sheet([4, 1, 0], &codes(2), &[[0, 19, 5, 15]]);
+        let expected = "HALL 4 1 0\n0 19 DELIVERED 4 1 : 0 4 7 17 19\nEND 1\n";
+        assert_eq!(text(&bytes), expected);
+    }
+
+    #[test]
+    fn the_sample_sheet_with_b_1_passes_2_12_and_15() {
+        let bytes = sheet([4, 1, 1], &codes(2), &[[0, 19, 5, 15]]);
+        let expected = "HALL 4 1 1\n0 19 DELIVERED 4 0 : 0 2 12 15 19\nEND 1\n";
+        assert_eq!(text(&bytes), expected);
+    }
+
+    #[test]
+    fn each_drop_is_printed_with_the_servers_passed() {
+        let packets = [[0, 19, 2, 15], [0, 19, 1, 15], [19, 19, 0, 0], [0, 1, 5, 0]];
+        let expected = "HALL 4 1 0\n0 19 DELIVERED 4 1 : 0 4 7 17 19\n0 19 DROP3 0 0 : 0\n\
+                        19 19 DELIVERED 0 0 : 19\n0 1 DROP1 0 0 : 0\nEND 4\n";
+        assert_eq!(text(&sheet([4, 1, 0], &codes(2), &packets)), expected);
+        let packets = [[0, 1, 5, 15], [0, 19, 5, 15]];
+        let expected = "HALL 4 1 0\n0 1 DROP2 0 0 : 0\n0 19 DROP4 0 0 : 0\nEND 2\n";
+        assert_eq!(text(&sheet([4, 1, 0], &[0; 40], &packets)), expected);
+    }
+
+    #[test]
+    fn ttl_2_is_dropped_at_16() {
+        let bytes = sheet([4, 1, 0], &[1; 40], &[[0, 19, 5, 3], [0, 19, 5, 2]]);
+        let expected =
+            "HALL 4 1 0\n0 19 DELIVERED 3 0 : 0 3 16 19\n0 19 DROP1 2 0 : 0 3 16\nEND 2\n";
+        assert_eq!(text(&bytes), expected);
+    }
+
+    #[test]
+    fn a_refused_sheet_prints_only_its_refusal() {
+        assert_eq!(text(&[]), "REFUSED 10 0\n");
+        let bytes = sheet([4, 1, 0], &codes(7), &[[0, 19, 5, 15]]);
+        assert_eq!(text(&bytes), "REFUSED 5 18\n");
+        let bytes = sheet([4, 1, 0], &codes(2), &[[0, 19, 5, 15], [0, 20, 5, 15]]);
+        assert_eq!(text(&bytes), "REFUSED 2 69\n");
+        assert_eq!(text(&[0; 65_537]), "REFUSED 10 65536\n");
+    }
+
+    #[test]
+    fn a_sheet_of_no_packets_prints_hall_and_end() {
+        let bytes = sheet([2, 0, 0], &[1, 1], &[]);
+        assert_eq!(text(&bytes), "HALL 2 0 0\nEND 0\n");
+    }
+
+    #[test]
+    fn numbers_are_printed_in_plain_decimal() {
+        let mut random = Random::new(10);
+        let mut numbers = vec![0, 9, 10, 99, 100, 999_999_999, 1_000_000_000, u32::MAX];
+        numbers.extend((0..1000).map(|i| random.word() >> (i % 32)));
+        for number in numbers {
+            let mut text = Vec::new();
+            put_number(&mut text, number);
+            assert_eq!(text, number.to_string().into_bytes());
+        }
+    }
+}
