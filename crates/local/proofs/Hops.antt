@@ -14,7 +14,7 @@ use Rattle.hall.proofs.Growth.{Valid}
 use Rattle.ports.specs.Codes.{SameUps}
 use Rattle.ports.proofs.Links.{joined-agrees}
 use Rattle.local.specs.Lowest.{lowestFrom}
-use Rattle.local.specs.Local.{none, cellSize, linked, distancesFrom, distance, nearerBy, nearer, hop}
+use Rattle.local.specs.Local.{none, cellSize, linked, distance, nearer, hop}
 use Rattle.local.proofs.Sizes.{size-fits}
 use Rattle.local.proofs.Lowest.{lowest-within, lowest-passes, lowest-first, lowest-some, lowest-cong}
 use Rattle.local.proofs.Distance.{linked-turns, local-bounded, local-self, local-zero, local-nearer, local-agrees}
@@ -87,7 +87,7 @@ module _ (h : Hall) (table : List ℕ) (v : Valid h) (x y : ℕ) (i : x < cellSi
 
 -- two tables that agree on which codes are 1 give the same next hop
 pub hop-agrees : (h : Hall) (a b : List ℕ) → Valid h → SameUps a b → (x y : ℕ) → y < cellSize h → hop h a x y ≡ hop h b x y
-unfolding hop nearer linked
+unfolding hop nearer distance linked
 hop-agrees h a b v s x y j =
-    lowest-cong (nearerBy h a (distancesFrom h a y) x) (nearerBy h b (distancesFrom h b y) x) (cellSize h) 0
+    lowest-cong (nearer h a x y) (nearer h b x y) (cellSize h) 0
     (λ z. rw (local-agrees h a b y v j s, joined-agrees h a b s (h .b) x z))

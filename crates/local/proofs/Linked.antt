@@ -15,7 +15,8 @@ use Rattle.hall.proofs.Cells.{neighbour-leaves}
 use Rattle.hall.proofs.Growth.{Valid}
 use Rattle.ports.specs.Links.{onSwitch, bothUp, joined}
 use Rattle.search.proofs.Rounds.{length-marks}
-use Rattle.local.specs.Local.{places, none, cellSize, linked, distancesFrom, recordFrom, nearerBy, nearer}
+use Rattle.local.specs.Local.{places, none, cellSize, linked, distancesFrom, recordFrom, distance, nearer}
+use Rattle.local.specs.Looks.{nearerBy}
 use Rattle.local.proofs.Sizes.{b-one}
 
 -- the test that code makes
@@ -84,7 +85,7 @@ record-at h table o z l = List·getD-append (distancesFrom h table o) (replicate
 
 pub nearer-is : (h : Hall) (table : List ℕ) (x y z : ℕ) (d : List ℕ) → d ≡ recordFrom h table y → x < cellSize h → z < cellSize h
     → nearerBy h table d x z ≡ nearer h table x y z
-unfolding nearer
+unfolding nearer distance
 nearer-is h table x y z d e k l = rw (e, record-at h table y x k, record-at h table y z l)
 
 -- one link nearer, as a test of numbers

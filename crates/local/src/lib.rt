@@ -12,9 +12,9 @@ ghost use Rattle.ports.specs.Codes.{up};
 ghost use Rattle.ports.specs.Links.{onSwitch, bothUp, switchHas};
 ghost use Rattle.ports.specs.Answers.{asksCell};
 ghost use Rattle.search.specs.Rounds.{new, round};
-ghost use Rattle.local.specs.Local.{places, none, cellSize, reachedBy, onLink, linked, recordFrom, nearerBy, hop};
+ghost use Rattle.local.specs.Local.{places, none, cellSize, linked, recordFrom, hop};
+ghost use Rattle.local.specs.Looks.{reachedBy, onLink, nearerBy};
 ghost use Rattle.local.specs.Answers.{distancesOf, nextHopOf};
-
 use hall::Hall;
 use hall::refusals::BAD_HALL;
 use hall::refusals::BAD_LENGTH;

@@ -1,0 +1,61 @@
+-- What the calls for a step and a journey answer.
+-- Sections "One forwarding step" and "Refusal numbers".
+use mathlib.Core.Bool.{Bool, true, false, not}
+use mathlib.Core.List.{List, [], _∷_, _++_}
+use Prim.Native.Nat.{ℕ, _-_}
+use lib.Dec.{leb, ltb}
+use lib.ListN.{length, replicate}
+use Rattle.combine.specs.Tests.{either}
+use Rattle.hall.specs.declared.Hall.{Hall}
+use Rattle.hall.specs.Refusals.{Ask, refusal, answered, bad-uid, bad-header}
+use Rattle.hall.specs.Halls.{servers, asksHall, asksUid}
+use Rattle.ports.specs.Answers.{asksTable, asksCell}
+use Rattle.forward.specs.declared.Packet.{Packet}
+use Rattle.forward.specs.declared.Step.{Step}
+use Rattle.forward.specs.declared.Journey.{Journey}
+use Rattle.forward.specs.Steps.{step}
+use Rattle.forward.specs.Journeys.{Trip, trip}
+
+-- the greatest retry
+abbrev pub most-retry : ℕ
+most-retry = 15
+
+-- the most uids that a journey passes
+abbrev pub most-passed : ℕ
+most-passed = 256
+
+-- a proxy, if there is one, is a server of the hall
+abbrev pub asksProxy : Hall → Packet → Ask
+asksProxy h p = (bad-uid, either (not (p .«has_proxy»)) (ltb (p .proxy) (servers h)))
+
+abbrev pub asksRetry : Packet → Ask
+asksRetry p = (bad-header, leb (p .retry) most-retry)
+
+-- what a packet at a server is asked, behind the hall and the table
+abbrev pub asksPacket : Hall → ℕ → Packet → List Ask
+asksPacket h me p = asksUid h me ∷ asksUid h (p .dst) ∷ asksProxy h p ∷ asksRetry p ∷ []
+
+-- no packet
+abbrev pub noPacket : Packet
+noPacket = record { dst = 0; «has_proxy» = false; proxy = 0; retry = 0; ttl = 0 }
+
+-- one step at a server, over the lent table of its own DCell(b)
+abbrev pub stepOf : Hall → ℕ → Packet → List ℕ → Step
+stepOf h me p table =
+    answered (refusal (asksHall h ∷ asksCell h table ∷ asksPacket h me p))
+    (step h table me p)
+    (λ number. record { refusal = number; ending = 0; next = 0; packet = noPacket; reroutes = 0 })
+
+-- the uids passed, zeros behind them
+unfoldable pub passed : List ℕ → List ℕ
+passed uids = uids ++ replicate (most-passed - length uids) 0
+
+abbrev pub journeyFrom : Trip → Journey
+journeyFrom j = record { refusal = 0; ending = j .ending; links = j .links; reroutes = j .reroutes; uids = passed (j .uids) }
+
+-- a journey from a source, over the hall table
+abbrev pub journeyOf : Hall → ℕ → Packet → List ℕ → Journey
+journeyOf h source p table =
+    answered (refusal (asksHall h ∷ asksTable h table ∷ asksPacket h source p))
+    (journeyFrom (trip h table source p))
+    (λ number. record { refusal = number; ending = 0; links = 0; reroutes = 0; uids = replicate most-passed 0 })

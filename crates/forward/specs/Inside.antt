@@ -1,0 +1,89 @@
+-- What the functions inside a step ask and answer, behind the refusals.
+-- Section "One forwarding step".
+use mathlib.Core.Path.{_≡_}
+use mathlib.Core.Bool.{Bool, true, false, not}
+use mathlib.Core.List.{List, [], _∷_}
+use Prim.Native.Nat.{ℕ, _+_, _<_, _≤_}
+use lib.Dec.{eqb, ltb}
+use lib.ListN.{length}
+use Rattle.combine.specs.Tests.{pick, either}
+use Rattle.hall.specs.declared.Hall.{Hall}
+use Rattle.hall.specs.Cells.{same}
+use Rattle.hall.specs.Halls.{valid, servers}
+use Rattle.hall.specs.Refusals.{Ask, bad-uid}
+use Rattle.ports.specs.Codes.{cellLength}
+use Rattle.route.specs.declared.Crossing.{Crossing}
+use Rattle.route.specs.declared.Crossing.the-variants.{Link, Nothing}
+use Rattle.route.specs.Answers.{firstLink}
+use Rattle.local.specs.Local.{none, cellSize, placeOf, firstOf}
+use Rattle.forward.specs.declared.Packet.{Packet}
+use Rattle.forward.specs.declared.Way.{Way}
+use Rattle.forward.specs.declared.Way.the-variants.{To, Closed, Unreached}
+use Rattle.forward.specs.Packets.{goal}
+use Rattle.forward.specs.Seen.{Seen}
+use Rattle.forward.specs.Answers.{most-retry, asksRetry}
+
+-- the way to a local target: its local next hop where it can be reached
+unfoldable pub wayTo : Hall → Seen → ℕ → ℕ → Way
+wayTo h s me target =
+    pick (not (eqb (s .distance (placeOf h target) (placeOf h me)) none))
+    (To (firstOf h me + s .hop (placeOf h me) (placeOf h target)))
+    Unreached
+
+-- the way towards a goal: to it where no link above b is on the route, else over the first such link, where it is usable
+unfoldable pub wayOver : Hall → Seen → ℕ → ℕ → Crossing → Way
+wayOver h s me goal Nothing = wayTo h s me goal
+wayOver h s me goal (Link n1 n2 m) = pick (s .usable m (placeOf h n1)) (pick (eqb me n1) (To n2) (wayTo h s me n1)) Closed
+
+-- what a packet at a server is asked, in a hall of so many servers
+abbrev pub asksBelow : ℕ → ℕ → Packet → List Ask
+asksBelow count me p =
+    (bad-uid, ltb me count) ∷ (bad-uid, ltb (p .dst) count)
+    ∷ (bad-uid, either (not (p .«has_proxy»)) (ltb (p .proxy) count)) ∷ asksRetry p ∷ []
+
+-- a hall, the table of the DCell(b) of a server, and the server
+pub record Here (h : Hall) (table : List ℕ) (me : ℕ) : Type 0 where
+  pub sound : valid h ≡ true
+  pub long : length table ≡ cellLength h (h .b)
+  pub fits : me < servers h
+
+-- another server of the cell
+pub record Target (h : Hall) (table : List ℕ) (me target : ℕ) : Type 0 where
+  pub here : Here h table me
+  pub fits : target < servers h
+  pub apart : target ≡ me → ⊥
+  pub near : same (h .n) (h .b) me target ≡ true
+
+-- another server of the hall, and the first link above b of the route to it
+pub record Ahead (h : Hall) (table : List ℕ) (me goal : ℕ) (link : Crossing) : Type 0 where
+  pub here : Here h table me
+  pub fits : goal < servers h
+  pub apart : goal ≡ me → ⊥
+  pub first : link ≡ firstLink h me goal
+
+-- a packet of servers of the hall
+pub record Sound (h : Hall) (p : Packet) : Type 0 where
+  pub dst-fits : p .dst < servers h
+  pub proxy-fits : p .«has_proxy» ≡ true → p .proxy < servers h
+  pub retry-fits : p .retry ≤ most-retry
+
+-- and it is neither at its goal nor at its end
+pub record Standing (h : Hall) (table : List ℕ) (me : ℕ) (p : Packet) : Type 0 where
+  pub here : Here h table me
+  pub packet : Sound h p
+  pub dst-apart : p .dst ≡ me → ⊥
+  pub goal-apart : goal p ≡ me → ⊥
+  pub alive : 0 < p .ttl
+
+-- and this is the first link above b of the route to its goal
+pub record Stopped (h : Hall) (table : List ℕ) (me : ℕ) (link : Crossing) (p : Packet) : Type 0 where
+  pub standing : Standing h table me p
+  pub first : link ≡ firstLink h me (goal p)
+
+-- a place of the cell around a server, and a level of a link
+pub record Placed (h : Hall) (me place level : ℕ) : Type 0 where
+  pub sound : valid h ≡ true
+  pub fits : me < servers h
+  pub inside : place < cellSize h
+  pub low : 0 < level
+  pub high : level ≤ h .k

@@ -1,0 +1,9 @@
+-- What a forwarding step and a journey are, and what each call answers.
+pub mod Packets
+pub mod Seen
+pub mod Proxies
+pub mod Steps
+pub mod Journeys
+pub mod Answers
+pub mod Inside
+pub mod Worked

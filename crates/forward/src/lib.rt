@@ -1,0 +1,464 @@
+// One forwarding step of a packet at a server, and the journey that steps make.
+pub mod endings;
+
+ghost use mathlib.Core.Path.{_≡_};
+ghost use mathlib.Core.Bool.{true, not};
+ghost use mathlib.Core.List.{_∷_};
+ghost use Prim.Native.Nat.{_+_, _-_, _≤_, _<_};
+ghost use lib.Dec.{eqb, ltb};
+ghost use lib.ListN.{length};
+ghost use Rattle.combine.specs.Tests.{pick, both, either};
+ghost use Rattle.hall.specs.Cells.{same, neighbour};
+ghost use Rattle.hall.specs.Halls.{valid, asksHall};
+ghost use Rattle.hall.specs.Refusals.{refusal, bad-length};
+ghost use Rattle.local.specs.Local.{cellSize, placeOf, firstOf};
+ghost use Rattle.ports.specs.Codes.{cellLength};
+ghost use Rattle.forward.specs.Packets.{cleared, tidied, proxied, retried, aged, isArrived, goal, sent, ended, counted};
+ghost use Rattle.forward.specs.Seen.{seen, usable};
+ghost use Rattle.forward.specs.Proxies.{choice};
+ghost use Rattle.forward.specs.Steps.{stepFrom, rerouteOn, step};
+ghost use Rattle.forward.specs.Answers.{asksPacket, noPacket, stepOf};
+ghost use Rattle.forward.specs.Inside.{Here, Target, Ahead, Standing, Stopped, Placed, Sound, wayTo, wayOver, asksBelow};
+use crate::endings::DELIVERED;
+use crate::endings::DROP_PROXY;
+use crate::endings::DROP_RETRY;
+use crate::endings::DROP_ROUTE;
+use crate::endings::DROP_TTL;
+use crate::endings::FORWARDED;
+use hall::Hall;
+use hall::refusals::BAD_HEADER;
+use hall::refusals::BAD_LENGTH;
+use hall::refusals::BAD_UID;
+use local::NONE;
+use route::Crossing;
+
+// The greatest retry.
+pub const MOST_RETRY: u8 = 15;
+// The most uids that a journey passes.
+pub const MOST_PASSED: usize = 256;
+
+// A packet: its destination, a proxy or none, its retry count and its time to live.
+pub struct Packet {
+    pub dst: u32,
+    pub has_proxy: bool,
+    pub proxy: u32,
+    pub retry: u8,
+    pub ttl: u8,
+}
+
+// What a step answers: the next uid or the ending, the packet to send on, and its reroutes.
+pub struct Step {
+    pub refusal: u32,
+    pub ending: u32,
+    pub next: u32,
+    pub packet: Packet,
+    pub reroutes: u32,
+}
+
+// A candidate for a new proxy: a place of the cell, and the level of its port.
+pub enum Candidate {
+    At { place: u32, level: u32 },
+    Nothing,
+}
+
+// What a journey answers: its ending, the links crossed, the reroutes, and the uids passed, zeros behind them.
+pub struct Journey {
+    pub refusal: u32,
+    pub ending: u32,
+    pub links: u32,
+    pub reroutes: u32,
+    pub uids: [u32; MOST_PASSED],
+}
+
+// The way on from a server: to a next one, over a link that is not usable, or to a local target that can't be reached.
+enum Way {
+    To { uid: u32 },
+    Closed,
+    Unreached,
+}
+
+// The packet without a proxy.
+fn cleared(p: Packet) -> Packet
+    ensures { λ r. ⌜ r ≡ cleared p ⌝ }
+{
+    Packet {
+        dst: p.dst,
+        has_proxy: false,
+        proxy: 0,
+        retry: p.retry,
+        ttl: p.ttl,
+    }
+}
+
+// The packet, with no number for a proxy that it has not.
+fn tidied(p: Packet) -> Packet
+    ensures { λ r. ⌜ r ≡ tidied p ⌝ }
+{
+    if p.has_proxy {
+        return p;
+    }
+    cleared(p)
+}
+
+// The packet with a new proxy.
+fn proxied(proxy: u32, p: Packet) -> Packet
+    ensures { λ r. ⌜ r ≡ proxied proxy p ⌝ }
+{
+    Packet {
+        dst: p.dst,
+        has_proxy: true,
+        proxy,
+        retry: p.retry,
+        ttl: p.ttl,
+    }
+}
+
+// The packet with its retry lowered by one.
+fn retried(p: Packet) -> Packet
+    requires { ⌜ 0 < p .retry ⌝ }
+    ensures { λ r. ⌜ r ≡ retried (p .retry - 1) p ⌝ }
+{
+    Packet {
+        dst: p.dst,
+        has_proxy: p.has_proxy,
+        proxy: p.proxy,
+        retry: p.retry - 1,
+        ttl: p.ttl,
+    }
+}
+
+// The packet with its TTL lowered by one.
+fn aged(p: Packet) -> Packet
+    requires { ⌜ 0 < p .ttl ⌝ }
+    ensures { λ r. ⌜ r ≡ aged p ⌝ }
+{
+    Packet {
+        dst: p.dst,
+        has_proxy: p.has_proxy,
+        proxy: p.proxy,
+        retry: p.retry,
+        ttl: p.ttl - 1,
+    }
+}
+
+// Whether the packet has come to its proxy.
+fn is_arrived(me: u32, p: Packet) -> bool
+    ensures { λ r. ⌜ r ≡ isArrived me p ⌝ }
+{
+    if !p.has_proxy {
+        return false;
+    }
+    p.proxy == me
+}
+
+// The proxy if there is one, else the destination.
+fn goal(p: Packet) -> u32
+    ensures { λ r. ⌜ r ≡ goal p ⌝ }
+{
+    if p.has_proxy {
+        return p.proxy;
+    }
+    p.dst
+}
+
+// The packet is forwarded to `next`.
+fn sent(next: u32, p: Packet) -> Step
+    requires { ⌜ 0 < p .ttl ⌝ }
+    ensures { λ r. ⌜ r ≡ sent next p ⌝ }
+{
+    Step {
+        refusal: 0,
+        ending: FORWARDED,
+        next,
+        packet: aged(p),
+        reroutes: 0,
+    }
+}
+
+// The packet ends here, as it came.
+fn ended(ending: u32, came: Packet) -> Step
+    ensures { λ r. ⌜ r ≡ ended ending came ⌝ }
+{
+    Step {
+        refusal: 0,
+        ending,
+        next: 0,
+        packet: came,
+        reroutes: 0,
+    }
+}
+
+// The step with one reroute more.
+fn counted(o: Step) -> Step
+    requires { ⌜ o .reroutes < 4294967295 ⌝ }
+    ensures { λ r. ⌜ r ≡ counted o ⌝ }
+{
+    let packet = o.packet;
+    Step {
+        refusal: o.refusal,
+        ending: o.ending,
+        next: o.next,
+        packet,
+        reroutes: o.reroutes + 1,
+    }
+}
+
+// t(b), the servers of a DCell(b).
+fn cell_size(h: Hall) -> u32
+    requires { ⌜ valid h ≡ true ⌝ }
+    ensures { λ r. ⌜ r ≡ cellSize h ⌝ }
+{
+    if h.b == 0 {
+        return h.n;
+    }
+    (h.n + 1) * h.n
+}
+
+// Whether two servers share a DCell(b).
+fn share_cell(h: Hall, x: u32, y: u32) -> bool
+    requires { ⌜ valid h ≡ true ⌝ }
+    ensures { λ r. ⌜ r ≡ same (h .n) (h .b) x y ⌝ }
+{
+    let count = cell_size(h);
+    x / count == y / count
+}
+
+// Whether the link of a level above b at `near` is usable, by the table of its DCell(b).
+fn is_usable(h: Hall, table: &[u8], level: u32, near: u32) -> bool
+    requires { ⌜ valid h ≡ true ⌝ }
+    ensures { λ r. ⌜ r ≡ usable h (now (table .entry)) level (placeOf h near) ⌝ }
+{
+    ports::is_up(h, table, near % cell_size(h), level)
+}
+
+// The way to a local target.
+fn way_to(h: Hall, table: &[u8], me: u32, target: u32) -> Way
+    requires { ⌜ Target h (now table) me target ⌝ }
+    ensures { λ r. ⌜ r ≡ wayTo h (seen h (now (table .entry))) me target ⌝ }
+{
+    let hop = local::next_hop(h, me, target, table);
+    if hop.found == 0 {
+        return Way::Unreached;
+    }
+    Way::To { uid: hop.uid }
+}
+
+// The way towards a goal, by the first link above b of the route to it.
+fn way_over(h: Hall, table: &[u8], me: u32, goal: u32, link: Crossing) -> Way
+    requires { ⌜ Ahead h (now table) me goal link ⌝ }
+    ensures { λ r. ⌜ r ≡ wayOver h (seen h (now (table .entry))) me goal link ⌝ }
+{
+    match link {
+        Crossing::Nothing => way_to(h, table, me, goal),
+        Crossing::Link { near, far, level } => {
+            if !is_usable(h, table, level, near) {
+                return Way::Closed;
+            }
+            if me == near {
+                return Way::To { uid: far };
+            }
+            way_to(h, table, me, near)
+        }
+    }
+}
+
+// Whether a place at distance d is a candidate nearer than `least`.
+fn is_nearer(h: Hall, table: &[u8], level: u32, place: u32, d: u8, least: u8) -> bool
+    ensures { λ r. ⌜ r ≡ both (ltb d least) (usable h (now (table .entry)) level place) ⌝ }
+{
+    if least <= d {
+        return false;
+    }
+    ports::is_up(h, table, place, level)
+}
+
+// The candidate for a new proxy: at the first level from `first` on that has one, the nearest, then the lowest.
+fn choose(h: Hall, table: &[u8], me: u32, first: u32) -> Candidate
+    requires { ⌜ Here h (now table) me ⌝ }
+    ensures { λ r. ⌜ r ≡ choice h (seen h (now (table .entry))) (placeOf h me) first ⌝ }
+{
+    let from = local::distances_of(h, me, table);
+    let count = from.count;
+    let distance = from.distance;
+    let mut best = Candidate::Nothing;
+    let mut level = first;
+    'search: while level <= h.k {
+        let mut least = NONE;
+        let mut place: u32 = 0;
+        while place < count {
+            let at = place as usize;
+            let d = distance[at];
+            if is_nearer(h, table, level, place, d, least) {
+                best = Candidate::At { place, level };
+                least = d;
+            }
+            place += 1;
+        }
+        if let Candidate::At { place: _, level: _ } = best {
+            break 'search;
+        }
+        level += 1;
+    }
+    best
+}
+
+// The level that a reroute tries first.
+fn first_level(h: Hall, level: u32, arrived: bool) -> u32
+    requires { ⌜ level ≤ 3 ⌝ }
+    ensures { λ r. ⌜ r ≡ level + pick (both arrived (ltb level (h .k))) 1 0 ⌝ }
+{
+    if !arrived {
+        return level;
+    }
+    if h.k <= level {
+        return level;
+    }
+    level + 1
+}
+
+// The neighbour at a level of the server at a place of the DCell(b) around `me`.
+fn proxy_of(h: Hall, me: u32, place: u32, level: u32) -> u32
+    requires { ⌜ Placed h me place level ⌝ }
+    ensures { λ r. ⌜ r ≡ neighbour (h .n) (level - 1) (firstOf h me + place) ⌝ }
+{
+    let first = me - me % cell_size(h);
+    hall::neighbour_of(h, first + place, level).uid
+}
+
+// The step from 4 on, of a packet that came as `came`.
+fn step_from(h: Hall, table: &[u8], me: u32, came: Packet, p: Packet, arrived: bool) -> Step
+    requires { ⌜ Standing h (now table) me p ⌝ }
+    ensures { λ r. ⌜ r ≡ stepFrom h (seen h (now (table .entry))) me came p arrived ⌝ }
+{
+    let to = goal(p);
+    let link = route::first_link(h, me, to);
+    match way_over(h, table, me, to, link) {
+        Way::To { uid } => sent(uid, p),
+        Way::Closed => reroute(h, table, me, came, link, p, arrived),
+        Way::Unreached => {
+            if share_cell(h, me, came.dst) {
+                return ended(DROP_ROUTE, came);
+            }
+            reroute(h, table, me, came, link, p, arrived)
+        }
+    }
+}
+
+// The step by another way, with one retry less.
+fn reroute(h: Hall, table: &[u8], me: u32, came: Packet, link: Crossing, p: Packet, arrived: bool) -> Step
+    requires { ⌜ Stopped h (now table) me link p ⌝ }
+    ensures { λ r. ⌜ r ≡ rerouteOn h (seen h (now (table .entry))) me came (p .retry) link p arrived ⌝ }
+{
+    if p.retry <= 1 {
+        return ended(DROP_RETRY, came);
+    }
+    let q = retried(p);
+    match link {
+        Crossing::Nothing => counted(step_from(h, table, me, came, cleared(q), false)),
+        Crossing::Link { near: _, far: _, level } => {
+            match choose(h, table, me, first_level(h, level, arrived)) {
+                Candidate::Nothing => ended(DROP_PROXY, came),
+                Candidate::At { place, level: at } => {
+                    let proxy = proxy_of(h, me, place, at);
+                    counted(step_from(h, table, me, came, proxied(proxy, q), false))
+                }
+            }
+        }
+    }
+}
+
+// The step of a packet that nothing refuses.
+fn step_at(h: Hall, table: &[u8], me: u32, packet: Packet) -> Step
+    requires { ⌜ Here h (now table) me × Sound h packet ⌝ }
+    ensures { λ r. ⌜ r ≡ step h (now (table .entry)) me packet ⌝ }
+{
+    let p = tidied(packet);
+    if me == p.dst {
+        return ended(DELIVERED, p);
+    }
+    if p.ttl == 0 {
+        return ended(DROP_TTL, p);
+    }
+    if is_arrived(me, p) {
+        return step_from(h, table, me, p, cleared(p), true);
+    }
+    step_from(h, table, me, p, p, false)
+}
+
+// Whether the packet's proxy, if it has one, is among so many servers.
+fn proxy_fits(servers: u32, p: Packet) -> bool
+    ensures { λ r. ⌜ r ≡ either (not (p .«has_proxy»)) (ltb (p .proxy) servers) ⌝ }
+{
+    if !p.has_proxy {
+        return true;
+    }
+    p.proxy < servers
+}
+
+// The refusal for a packet at a server, in a hall of so many servers; 0 for none.
+fn refused_packet(servers: u32, uid: u32, p: Packet) -> u32
+    ensures { λ r. ⌜ r ≡ refusal (asksBelow servers uid p) ⌝ }
+{
+    if servers <= uid {
+        return BAD_UID;
+    }
+    if servers <= p.dst {
+        return BAD_UID;
+    }
+    if !proxy_fits(servers, p) {
+        return BAD_UID;
+    }
+    if MOST_RETRY < p.retry {
+        return BAD_HEADER;
+    }
+    0
+}
+
+// The refusal for a hall, the table of a DCell of some level, and a packet at a server; 0 for none.
+fn refused(h: Hall, level: u32, table: &[u8], uid: u32, p: Packet) -> u32
+    requires { ⌜ (valid h ≡ true → level ≤ h .k) ⌝ }
+    ensures { λ r. ⌜ r ≡ refusal (asksHall h ∷ (bad-length, eqb (length (now (table .entry))) (cellLength h level)) ∷ asksPacket h uid p) ⌝ }
+{
+    let s = hall::sizes_of(h);
+    if s.refusal != 0 {
+        return s.refusal;
+    }
+    let sizes = s.t;
+    let at = level as usize;
+    let bytes = (sizes[at] as usize) * ((h.k as usize) + 1);
+    if table.len() != bytes {
+        return BAD_LENGTH;
+    }
+    let k = h.k as usize;
+    refused_packet(sizes[k], uid, p)
+}
+
+// No packet.
+fn no_packet() -> Packet
+    ensures { λ r. ⌜ r ≡ noPacket ⌝ }
+{
+    Packet {
+        dst: 0,
+        has_proxy: false,
+        proxy: 0,
+        retry: 0,
+        ttl: 0,
+    }
+}
+
+// One forwarding step at a server, over the table of its own DCell(b).
+pub fn forward_step(h: Hall, uid: u32, packet: Packet, table: &[u8]) -> Step
+    ensures { λ r. ⌜ r ≡ stepOf h uid packet (now (table .entry)) ⌝ }
+{
+    let number = refused(h, h.b, table, uid, packet);
+    if number != 0 {
+        return Step {
+            refusal: number,
+            ending: 0,
+            next: 0,
+            packet: no_packet(),
+            reroutes: 0,
+        };
+    }
+    step_at(h, table, uid, packet)
+}
