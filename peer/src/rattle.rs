@@ -1,9 +1,10 @@
-//! The proved calls, as the static library of the crate `calls` exports them, behind safe functions.
+//! The proved calls, as the static libraries of the crates `calls` and `driver` export them, behind safe functions.
 //!
 //! Nothing checks these declarations against the Rattle source: whoever changes a signature there changes it here. A slice is two
 //! arguments to Rattle, a pointer and a length, and is declared as two. A Rust slice would be one: where a single register is left
 //! for it, it goes to the stack whole, and Rattle would look for its pointer in that register.
 
+use peer::frame::Fields;
 use peer::hall::{Hall, LEVELS};
 
 mod foreign {
@@ -51,11 +52,116 @@ mod foreign {
             room: *mut u32,
             length: usize,
         ) -> u32;
+        pub fn calls_check(n: u32, k: u32, b: u32, table: *const u8, codes: usize) -> u32;
+        pub fn calls_check_place(n: u32, k: u32, b: u32, table: *const u8, codes: usize) -> u32;
+        pub fn calls_part(
+            n: u32,
+            k: u32,
+            b: u32,
+            table: *const u8,
+            codes: usize,
+            uid: u32,
+            room: *mut u8,
+            length: usize,
+        ) -> u32;
+        pub fn calls_route(
+            n: u32,
+            k: u32,
+            b: u32,
+            x: u32,
+            y: u32,
+            room: *mut u32,
+            length: usize,
+        ) -> u32;
+        pub fn calls_route_links(n: u32, k: u32, b: u32, x: u32, y: u32) -> u32;
+        pub fn calls_distances(
+            n: u32,
+            k: u32,
+            b: u32,
+            uid: u32,
+            table: *const u8,
+            codes: usize,
+            room: *mut u8,
+            length: usize,
+        ) -> u32;
+        pub fn calls_distances_origin(
+            n: u32,
+            k: u32,
+            b: u32,
+            uid: u32,
+            table: *const u8,
+            codes: usize,
+            room: *mut u32,
+            length: usize,
+        ) -> u32;
+        pub fn calls_next_hop(
+            n: u32,
+            k: u32,
+            b: u32,
+            uid: u32,
+            target: u32,
+            table: *const u8,
+            codes: usize,
+            room: *mut u32,
+            length: usize,
+        ) -> u32;
+        pub fn calls_payload(
+            frame: *const u8,
+            bytes: usize,
+            room: *mut u8,
+            length: usize,
+        ) -> u32;
+        pub fn calls_next_identification(identification: u32) -> u32;
+        pub fn calls_broadcast(
+            n: u32,
+            k: u32,
+            b: u32,
+            table: *const u8,
+            codes: usize,
+            source: u32,
+            scope: u32,
+            rounds: *mut u16,
+            servers: usize,
+            room: *mut u32,
+            length: usize,
+        ) -> u32;
+    }
+
+    #[link(name = "driver", kind = "static")]
+    unsafe extern "C" {
+        pub fn tbexlum_route(
+            n: u32,
+            k: u32,
+            b: u32,
+            x: u32,
+            y: u32,
+            room: *mut u8,
+            length: usize,
+        ) -> u32;
+        pub fn tbexlum_read_header(
+            frame: *const u8,
+            bytes: usize,
+            room: *mut u8,
+            length: usize,
+        ) -> u32;
+        pub fn tbexlum_write_header(
+            protocol: u8,
+            payload_length: u16,
+            identification: u32,
+            retry: u8,
+            ttl: u8,
+            source: u32,
+            destination: u32,
+            has_proxy: u32,
+            proxy: u32,
+            room: *mut u8,
+            length: usize,
+        ) -> u32;
     }
 }
 
 // SAFETY, of every call below: the exported functions have no `requires`, and read and write nothing but the slices lent to them;
-// pointer and length are those of a slice that is borrowed, for writing alone, until the call returns.
+// pointer and length are those of a slice that is borrowed, for writing alone where it is a room, until the call returns.
 
 /// The sizes of a hall.
 #[inline]
@@ -96,4 +202,126 @@ pub fn neighbour(h: Hall, uid: u32, level: u32, room: &mut [u32]) -> u32 {
 pub fn link(h: Hall, uid: u32, level: u32, p: u32, q: u32, room: &mut [u32]) -> u32 {
     let (start, length) = (room.as_mut_ptr(), room.len());
     unsafe { foreign::calls_link(h.n, h.k, h.b, uid, level, p, q, start, length) }
+}
+
+/// The check of a hall table: its refusal.
+#[inline]
+pub fn check(h: Hall, table: &[u8]) -> u32 {
+    unsafe { foreign::calls_check(h.n, h.k, h.b, table.as_ptr(), table.len()) }
+}
+
+/// The check of a hall table: the place of its first unknown code, else 0.
+#[inline]
+pub fn check_place(h: Hall, table: &[u8]) -> u32 {
+    unsafe { foreign::calls_check_place(h.n, h.k, h.b, table.as_ptr(), table.len()) }
+}
+
+/// The part of a hall table that holds the DCell(b) of a server.
+#[inline]
+pub fn part(h: Hall, table: &[u8], uid: u32, room: &mut [u8]) -> u32 {
+    let (codes, count) = (table.as_ptr(), table.len());
+    let (start, length) = (room.as_mut_ptr(), room.len());
+    unsafe { foreign::calls_part(h.n, h.k, h.b, codes, count, uid, start, length) }
+}
+
+/// The uids of the route from x to y, zeros behind them.
+#[inline]
+pub fn route(h: Hall, x: u32, y: u32, room: &mut [u32]) -> u32 {
+    unsafe { foreign::calls_route(h.n, h.k, h.b, x, y, room.as_mut_ptr(), room.len()) }
+}
+
+/// The links of the route from x to y; 0 where it is refused.
+#[inline]
+pub fn route_links(h: Hall, x: u32, y: u32) -> u32 {
+    unsafe { foreign::calls_route_links(h.n, h.k, h.b, x, y) }
+}
+
+/// The route from x to y in the driver's form.
+#[inline]
+pub fn driver_route(h: Hall, x: u32, y: u32, room: &mut [u8]) -> u32 {
+    unsafe { foreign::tbexlum_route(h.n, h.k, h.b, x, y, room.as_mut_ptr(), room.len()) }
+}
+
+/// The distances from a server to all of its DCell(b).
+#[inline]
+pub fn distances(h: Hall, uid: u32, table: &[u8], room: &mut [u8]) -> u32 {
+    let (codes, count) = (table.as_ptr(), table.len());
+    let (start, length) = (room.as_mut_ptr(), room.len());
+    unsafe { foreign::calls_distances(h.n, h.k, h.b, uid, codes, count, start, length) }
+}
+
+/// The origin of these distances and their count.
+#[inline]
+pub fn distances_origin(h: Hall, uid: u32, table: &[u8], room: &mut [u32]) -> u32 {
+    let (codes, count) = (table.as_ptr(), table.len());
+    let (start, length) = (room.as_mut_ptr(), room.len());
+    unsafe { foreign::calls_distances_origin(h.n, h.k, h.b, uid, codes, count, start, length) }
+}
+
+/// The local next hop from a server towards a target.
+#[inline]
+pub fn next_hop(h: Hall, uid: u32, target: u32, table: &[u8], room: &mut [u32]) -> u32 {
+    let (codes, count) = (table.as_ptr(), table.len());
+    let (start, length) = (room.as_mut_ptr(), room.len());
+    unsafe { foreign::calls_next_hop(h.n, h.k, h.b, uid, target, codes, count, start, length) }
+}
+
+/// The header of a frame in the driver's form.
+#[inline]
+pub fn read_header(frame: &[u8], room: &mut [u8]) -> u32 {
+    let (start, length) = (room.as_mut_ptr(), room.len());
+    unsafe { foreign::tbexlum_read_header(frame.as_ptr(), frame.len(), start, length) }
+}
+
+/// The header of these fields; the number that tells of a proxy stands beside them.
+#[inline]
+pub fn write_header(fields: &Fields, has_proxy: u32, room: &mut [u8]) -> u32 {
+    unsafe {
+        foreign::tbexlum_write_header(
+            fields.protocol,
+            fields.payload_length,
+            fields.identification,
+            fields.retry,
+            fields.ttl,
+            fields.source,
+            fields.destination,
+            has_proxy,
+            fields.proxy,
+            room.as_mut_ptr(),
+            room.len(),
+        )
+    }
+}
+
+/// The payload of a frame.
+#[inline]
+pub fn payload(frame: &[u8], room: &mut [u8]) -> u32 {
+    let (start, length) = (room.as_mut_ptr(), room.len());
+    unsafe { foreign::calls_payload(frame.as_ptr(), frame.len(), start, length) }
+}
+
+/// The identification after one.
+#[inline]
+pub fn next_identification(identification: u32) -> u32 {
+    unsafe { foreign::calls_next_identification(identification) }
+}
+
+/// The rounds of a broadcast, and the servers reached and the last round.
+#[inline]
+pub fn broadcast(
+    h: Hall,
+    table: &[u8],
+    source: u32,
+    scope: u32,
+    rounds: &mut [u16],
+    room: &mut [u32],
+) -> u32 {
+    let (codes, count) = (table.as_ptr(), table.len());
+    let (first, servers) = (rounds.as_mut_ptr(), rounds.len());
+    let (start, length) = (room.as_mut_ptr(), room.len());
+    unsafe {
+        foreign::calls_broadcast(
+            h.n, h.k, h.b, codes, count, source, scope, first, servers, start, length,
+        )
+    }
 }

@@ -195,7 +195,14 @@ pub extern "C" fn calls_route_links(n: u32, k: u32, b: u32, x: u32, y: u32) -> u
 }
 
 #[no_mangle]
-pub extern "C" fn calls_distances(n: u32, k: u32, b: u32, uid: u32, table: &[u8], room: &mut [u8]) -> u32
+pub extern "C" fn calls_distances(
+    n: u32,
+    k: u32,
+    b: u32,
+    uid: u32,
+    table: &[u8],
+    room: &mut [u8],
+) -> u32
     ensures number { λ r. ⌜ r ≡ told (ofDistances (distancesOf (hallOf n k b) uid (now (table .entry)))) (now (room .entry)) ⌝ }
     ensures room { λ _. ⌜ now (room .exit) ≡ written (ofDistances (distancesOf (hallOf n k b) uid (now (table .entry)))) (now (room .entry)) ⌝ }
 {
@@ -205,7 +212,14 @@ pub extern "C" fn calls_distances(n: u32, k: u32, b: u32, uid: u32, table: &[u8]
 }
 
 #[no_mangle]
-pub extern "C" fn calls_distances_origin(n: u32, k: u32, b: u32, uid: u32, table: &[u8], room: &mut [u32]) -> u32
+pub extern "C" fn calls_distances_origin(
+    n: u32,
+    k: u32,
+    b: u32,
+    uid: u32,
+    table: &[u8],
+    room: &mut [u32],
+) -> u32
     ensures number { λ r. ⌜ r ≡ told (ofOrigin (distancesOf (hallOf n k b) uid (now (table .entry)))) (now (room .entry)) ⌝ }
     ensures room { λ _. ⌜ now (room .exit) ≡ written (ofOrigin (distancesOf (hallOf n k b) uid (now (table .entry)))) (now (room .entry)) ⌝ }
 {
@@ -215,7 +229,15 @@ pub extern "C" fn calls_distances_origin(n: u32, k: u32, b: u32, uid: u32, table
 }
 
 #[no_mangle]
-pub extern "C" fn calls_next_hop(n: u32, k: u32, b: u32, uid: u32, target: u32, table: &[u8], room: &mut [u32]) -> u32
+pub extern "C" fn calls_next_hop(
+    n: u32,
+    k: u32,
+    b: u32,
+    uid: u32,
+    target: u32,
+    table: &[u8],
+    room: &mut [u32],
+) -> u32
     ensures number { λ r. ⌜ r ≡ told (ofNextHop (nextHopOf (hallOf n k b) uid target (now (table .entry)))) (now (room .entry)) ⌝ }
     ensures room { λ _. ⌜ now (room .exit) ≡ written (ofNextHop (nextHopOf (hallOf n k b) uid target (now (table .entry)))) (now (room .entry)) ⌝ }
 {
@@ -241,7 +263,16 @@ pub extern "C" fn calls_next_identification(id: u32) -> u32
 }
 
 #[no_mangle]
-pub extern "C" fn calls_broadcast(n: u32, k: u32, b: u32, table: &[u8], source: u32, scope: u32, rounds: &mut [u16], room: &mut [u32]) -> u32
+pub extern "C" fn calls_broadcast(
+    n: u32,
+    k: u32,
+    b: u32,
+    table: &[u8],
+    source: u32,
+    scope: u32,
+    rounds: &mut [u16],
+    room: &mut [u32],
+) -> u32
     ensures number { λ r. ⌜ r ≡ told (ofBroadcast (broadcastOf (hallOf n k b) (now (table .entry)) source scope (now (rounds .entry)))) (now (room .entry)) ⌝ }
     ensures rounds { λ _. ⌜ now (rounds .exit) ≡ roomOf (hallOf n k b) (now (table .entry)) source scope (now (rounds .entry)) ⌝ }
     ensures room { λ _. ⌜ now (room .exit) ≡ written (ofBroadcast (broadcastOf (hallOf n k b) (now (table .entry)) source scope (now (rounds .entry)))) (now (room .entry)) ⌝ }

@@ -9,6 +9,8 @@ use Rattle.hall.specs.declared.Hall.{Hall}
 use Rattle.route.specs.declared.Route.{Route}
 use Rattle.frame.specs.declared.Header.{Header}
 use Rattle.frame.specs.declared.Fields.{Fields}
+use Rattle.forward.specs.declared.Packet.{Packet}
+use Rattle.forward.specs.declared.Step.{Step}
 use Rattle.hall.specs.Rooms.{Outcome}
 use Rattle.driver.specs.Words.{bytesOf}
 
@@ -26,11 +28,13 @@ ofRoute a = (a .refusal, bytesOf (take (a .links + 1) (a .uids)))
 
 -- a header: its length in bytes, then its fields in order
 abbrev pub ofHeader : Header → Outcome
-ofHeader a =
-    (a .refusal, bytesOf (
+ofHeader a = (
+  a .refusal,
+  bytesOf (
       a .«header_length» ∷ a .protocol ∷ a .«payload_length» ∷ a .identification ∷ a .retry ∷ a .ttl ∷ a .source ∷ a .destination
       ∷ flagOf (a .«has_proxy») ∷ a .proxy ∷ []
-    ))
+      ),
+)
 
 -- the fields to write; there is a proxy where its flag is not 0
 abbrev pub fieldsOf : ℕ → ℕ → ℕ → ℕ → ℕ → ℕ → ℕ → ℕ → ℕ → Fields
@@ -45,3 +49,17 @@ fieldsOf protocol length identification retry ttl source destination flag proxy 
   «has_proxy» = not (eqb flag 0);
   proxy = proxy;
 }
+
+-- a step: its ending, the next uid, the packet to send on, its reroutes
+abbrev pub ofStep : Step → Outcome
+ofStep a = (
+  a .refusal,
+  bytesOf (
+      a .ending ∷ a .next ∷ a .packet .dst ∷ flagOf (a .packet .«has_proxy») ∷ a .packet .proxy ∷ a .packet .retry ∷ a .packet .ttl
+      ∷ a .reroutes ∷ []
+      ),
+)
+
+-- the packet of these numbers; there is a proxy where its flag is not 0
+abbrev pub packetOf : ℕ → ℕ → ℕ → ℕ → ℕ → Packet
+packetOf dst flag proxy retry ttl = record { dst = dst; «has_proxy» = not (eqb flag 0); proxy = proxy; retry = retry; ttl = ttl }

@@ -5,12 +5,13 @@ ghost use Prim.Native.Nat.{_+_, _*_, _≤_};
 ghost use lib.ListN.{length, drop};
 ghost use lib.Seq.{sets};
 ghost use Rattle.route.specs.Answers.{routeBetween};
+ghost use Rattle.forward.specs.Answers.{stepOf};
 ghost use Rattle.frame.specs.Reading.{readFrame};
 ghost use Rattle.frame.specs.Writing.{writeRefusal, roomWritten};
 ghost use Rattle.hall.specs.Rooms.{told, written};
 ghost use Rattle.driver.specs.Words.{bigEndian, bytesOf};
-ghost use Rattle.driver.specs.Outcomes.{hallOf, flagOf, ofRoute, ofHeader, fieldsOf};
-
+ghost use Rattle.driver.specs.Outcomes.{hallOf, flagOf, ofRoute, ofHeader, fieldsOf, ofStep, packetOf};
+use forward::Packet;
 use frame::Fields;
 use hall::Hall;
 use hall::refusals::SHORT_ROOM;
@@ -127,4 +128,54 @@ pub extern "C" fn tbexlum_write_header(
         proxy,
     };
     frame::write_header(fields, room)
+}
+
+// A byte as a word.
+fn wide(x: u8) -> u32
+    ensures { λ r. ⌜ r ≡ x ⌝ }
+{
+    x as u32
+}
+
+// One forwarding step at a server, over the table of its own DCell(b); `has_proxy` is 0 where there is no proxy.
+#[no_mangle]
+pub extern "C" fn tbexlum_step(
+    n: u32,
+    k: u32,
+    b: u32,
+    uid: u32,
+    dst: u32,
+    has_proxy: u32,
+    proxy: u32,
+    retry: u8,
+    ttl: u8,
+    table: &[u8],
+    room: &mut [u8],
+) -> u32
+    ensures number { λ r. ⌜ r ≡ told (ofStep (stepOf (hallOf n k b) uid (packetOf dst «has_proxy» proxy retry ttl) (now (table .entry)))) (now (room .entry)) ⌝ }
+    ensures room { λ _. ⌜ now (room .exit) ≡ written (ofStep (stepOf (hallOf n k b) uid (packetOf dst «has_proxy» proxy retry ttl) (now (table .entry)))) (now (room .entry)) ⌝ }
+{
+    let packet = Packet {
+        dst,
+        has_proxy: has_proxy != 0,
+        proxy,
+        retry,
+        ttl,
+    };
+    let a = forward::forward_step(Hall { n, k, b }, uid, packet, table);
+    let p = a.packet;
+    let flagged = flag(p.has_proxy);
+    let left = wide(p.retry);
+    let life = wide(p.ttl);
+    let words = [
+        a.ending,
+        a.next,
+        p.dst,
+        flagged,
+        p.proxy,
+        left,
+        life,
+        a.reroutes,
+    ];
+    tell(a.refusal, &words, room)
 }

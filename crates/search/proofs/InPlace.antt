@@ -82,10 +82,10 @@ module _ (adj : ℕ → ℕ → Bool) (n none r : ℕ) (old : List ℕ) where
         let e : length (upTo (mark adj n none r old) x) + (z - x) ≡ z = omega (arith, length-upTo (mark adj n none r old) x) in
         let k : x + (z - x) ≡ z = omega arith in
         let b : drop z (filled adj n none r old x) ≡ drop z old =
-            ap (λ (i : ℕ). drop i (filled adj n none r old x)) (sym e)
-            ∙ drop-append-add (upTo (mark adj n none r old) x) (drop x old) (z - x)
-            ∙ drop-drop (z - x) x old
-            ∙ ap (λ (i : ℕ). drop i old) k in
+        ap (λ (i : ℕ). drop i (filled adj n none r old x)) (sym e)
+        ∙ drop-append-add (upTo (mark adj n none r old) x) (drop x old) (z - x)
+        ∙ drop-drop (z - x) x old
+        ∙ ap (λ (i : ℕ). drop i old) k in
         rw (a, b)
 
     pub any-on : (z : ℕ) → x ≤ z

@@ -23,8 +23,8 @@ module _ (adj : ℕ → ℕ → Bool) (n none o : ℕ) (tail : List ℕ) (r : �
   pub loop-idle : o < n → n < none → r < n → anyBelow (new adj n none r held) n ≡ false → then ≡ distances adj n none o ++ tail
   loop-idle inside small below idle =
       let still : anyBelow (new adj n none r (marks adj n none o r)) n ≡ false =
-          sym (tail-any adj n none (marks adj n none o r) tail (length-marks adj n none o r) r)
-          ∙ ap (λ (l : List ℕ). anyBelow (new adj n none r l) n) (sym holds) ∙ idle in
+      sym (tail-any adj n none (marks adj n none o r) tail (length-marks adj n none o r) r)
+      ∙ ap (λ (l : List ℕ). anyBelow (new adj n none r l) n) (sym holds) ∙ idle in
       let last : marks adj n none o (suc r) ≡ marks adj n none o n =
-          idle-same adj n none o inside r still ∙ sym (idle-ends adj n none o inside r n (omega arith) small still) in
+      idle-same adj n none o inside r still ∙ sym (idle-ends adj n none o inside r n (omega arith) small still) in
       loop-more ∙ ap (λ (k : ℕ). marks adj n none o k ++ tail) (add-one r) ∙ ap (λ (l : List ℕ). l ++ tail) last

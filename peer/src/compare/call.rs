@@ -1,6 +1,7 @@
 //! What the comparison and the benchmark know of one call.
 
 use std::fmt::Debug;
+use std::iter;
 
 use peer::random::Random;
 
@@ -8,12 +9,13 @@ use peer::random::Random;
 pub trait Call {
     /// What the call is given, its rooms apart.
     type Input: Debug + 'static;
-    /// What the call is lent to write to: a `Room`, or several as a tuple.
+    /// What the call is lent to write to: a `Room`, several as a tuple, or nothing.
     type Rooms: Clone + PartialEq + Debug;
 
     /// The name of the call in the tables.
     const NAME: &'static str;
-    /// Every number that the call can return, 0 included; a comparison has to meet each of them.
+    /// Every number that the call can return, 0 included; a comparison has to meet each of them. A call that returns a value and no
+    /// refusal is told by 0, with its value in a room of one element.
     const NUMBERS: &'static [u32];
     /// The random inputs of a short comparison, those of `edges` apart.
     const INPUTS: u32 = 200_000;
@@ -26,6 +28,10 @@ pub trait Call {
     fn any(random: &mut Random) -> Self::Input;
     /// The inputs that every comparison tries.
     fn edges() -> impl Iterator<Item = Self::Input>;
+    /// The inputs that a long comparison tries besides.
+    fn long_edges() -> impl Iterator<Item = Self::Input> {
+        iter::empty()
+    }
     /// Rooms for one input, some of them too short, filled at random.
     fn rooms(input: &Self::Input, random: &mut Random) -> Self::Rooms;
     /// Rooms that are long enough for every input of the cases.

@@ -46,6 +46,11 @@ pub fn compare<C: Call>(seed: u64, effort: Effort) -> Tally {
         Effort::Short => 1,
         Effort::Long => LONG,
     };
+    if effort == Effort::Long {
+        for input in C::long_edges() {
+            tally.add::<C>(&input, &mut random);
+        }
+    }
     for _ in 0..C::INPUTS * times {
         let input = C::any(&mut random);
         tally.add::<C>(&input, &mut random);

@@ -1,0 +1,271 @@
+//! Tables of port codes to call with: of the right length and of wrong ones, with all codes up or most of them not.
+
+use std::fmt::{self, Debug, Formatter};
+use std::iter;
+use std::ops::Deref;
+use std::sync::OnceLock;
+
+use peer::hall::{Hall, LEAST_N, MOST_K, MOST_N};
+use peer::ports::UP;
+use peer::random::Random;
+
+use super::inputs::{any_hall, servers, sizes};
+
+/// The highest share of codes that are not up, of a hundred.
+const MOST_NOT_UP: u32 = 70;
+/// The known codes but the one that is up.
+const NOT_UP: [u8; 4] = [0, 2, 3, 4];
+/// The known codes, from 0 on.
+const KNOWN: u8 = 5;
+/// One table in so many has a wrong length.
+const WRONG_LENGTH: u32 = 8;
+/// The codes of a table for a hall that is none.
+const SUPPOSED_CODES: u32 = 40;
+/// A hall whose table has at most so many codes is light; tables of others are drawn once and shared.
+const LIGHT: usize = 20_000;
+/// A table of at most so many codes is shown whole.
+const SHOWN: usize = 400;
+/// The shares of codes that are not up in the DCell(2)s of a shared table, in turn.
+const SHARES: [u32; 8] = [0, 5, 10, 20, 30, 40, 55, MOST_NOT_UP];
+/// The seed of the shared tables.
+const SHARED_SEED: u64 = 0x7AB1E;
+
+/// A table, drawn for one input or lent by all.
+pub enum Table {
+    Own(Vec<u8>),
+    Shared(&'static [u8]),
+}
+
+impl Deref for Table {
+    type Target = [u8];
+
+    #[inline]
+    fn deref(&self) -> &[u8] {
+        match self {
+            Table::Own(codes) => codes,
+            Table::Shared(codes) => codes,
+        }
+    }
+}
+
+impl Debug for Table {
+    /// The length, and the codes where they are few or else the first that are not up.
+    fn fmt(&self, f: &mut Formatter<'_>) -> fmt::Result {
+        let codes: &[u8] = self;
+        write!(f, "{} codes ", codes.len())?;
+        if codes.len() <= SHOWN {
+            return write!(f, "{codes:?}");
+        }
+        let not_up = codes.iter().enumerate().filter(|&(_, &code)| code != UP);
+        write!(f, "all 1 but ")?;
+        f.debug_map().entries(not_up.take(SHOWN)).finish()
+    }
+}
+
+/// The codes of the table of a sound hall, or those supposed.
+pub fn hall_codes(h: Hall) -> usize {
+    codes_of(h, h.k)
+}
+
+/// The codes of the table of a DCell(b) of a sound hall, or those supposed.
+pub fn cell_codes(h: Hall) -> usize {
+    codes_of(h, h.b)
+}
+
+/// The codes of a DCell(level) of a sound hall, or those supposed.
+fn codes_of(h: Hall, level: u32) -> usize {
+    let count = sizes(h).map(|t| t[level as usize] * (h.k + 1));
+    count.unwrap_or(SUPPOSED_CODES) as usize
+}
+
+/// Whether the table of a hall is light.
+pub fn light(h: Hall) -> bool {
+    hall_codes(h) <= LIGHT
+}
+
+/// Any hall, its top level lowered to where its table is light.
+pub fn light_hall(random: &mut Random) -> Hall {
+    let h = any_hall(random);
+    if light(h) {
+        return h;
+    }
+    Hall { k: MOST_K - 1, ..h }
+}
+
+/// A length that is mostly the right one, else one beside it or any a little above it or below.
+pub fn any_length(random: &mut Random, right: usize) -> usize {
+    if !random.once_in(WRONG_LENGTH) {
+        return right;
+    }
+    match random.below(4) {
+        0 => right - 1,
+        1 => right + 1,
+        2 => 0,
+        _ => random.below(right as u32 + 4) as usize,
+    }
+}
+
+/// Codes of which so many in a hundred are not up.
+pub fn codes(random: &mut Random, count: usize, not_up: u32) -> Vec<u8> {
+    if not_up == 0 {
+        return vec![UP; count];
+    }
+    iter::repeat_with(|| code(random, not_up))
+        .take(count)
+        .collect()
+}
+
+/// Codes of which any share up to the highest is not up; all of them are up in one table of a few.
+pub fn any_codes(random: &mut Random, count: usize) -> Vec<u8> {
+    let not_up = if random.once_in(8) {
+        0
+    } else {
+        random.below(MOST_NOT_UP + 1)
+    };
+    codes(random, count, not_up)
+}
+
+/// Known codes.
+pub fn known_codes(random: &mut Random, count: usize) -> Vec<u8> {
+    let words = iter::repeat_with(|| random.bits().to_le_bytes());
+    let bytes = words.flatten().map(|byte| byte % KNOWN);
+    bytes.take(count).collect()
+}
+
+/// A code that is unknown.
+pub fn unknown_code(random: &mut Random) -> u8 {
+    KNOWN + random.below(u32::from(u8::MAX - KNOWN) + 1) as u8
+}
+
+/// A code that is not up: a known one or any.
+pub fn code_not_up(random: &mut Random) -> u8 {
+    let known = NOT_UP[random.below(4) as usize];
+    let any = random.byte();
+    if any == UP || random.once_in(2) {
+        known
+    } else {
+        any
+    }
+}
+
+/// A table for any hall, mostly of the right length; shared where the hall is not light.
+pub fn any_hall_table(random: &mut Random, h: Hall) -> Table {
+    let count = any_length(random, hall_codes(h));
+    match shared(h) {
+        Some(codes) => Table::Shared(&codes[..count.min(codes.len())]),
+        None => Table::Own(any_codes(random, count)),
+    }
+}
+
+/// A table of the right length for a hall and one of its servers, with so many in a hundred codes not up around that server, which
+/// has to be a share of the shared tables where the hall is not light.
+pub fn sound_hall_table(random: &mut Random, h: Hall, not_up: u32) -> (Table, u32) {
+    let count = hall_codes(h);
+    let uid = random.below(servers(h).unwrap_or(1));
+    match shared(h) {
+        Some(codes) => (Table::Shared(&codes[..count]), moved(h, uid, not_up)),
+        None => (Table::Own(codes(random, count, not_up)), uid),
+    }
+}
+
+/// The server at the same place as another in one of the first DCell(2)s, the one that has such a share in the shared table.
+fn moved(h: Hall, uid: u32, not_up: u32) -> u32 {
+    let cell = sizes(h).map_or(1, |t| t[2]);
+    let turn = SHARES.iter().position(|&share| share == not_up);
+    turn.unwrap_or(0) as u32 * cell + uid % cell
+}
+
+/// A code that is not up so many times in a hundred.
+fn code(random: &mut Random, not_up: u32) -> u8 {
+    if random.below(100) < not_up {
+        code_not_up(random)
+    } else {
+        UP
+    }
+}
+
+/// The shared table of a hall that is not light, with one code too many.
+fn shared(h: Hall) -> Option<&'static [u8]> {
+    static TABLES: [OnceLock<Vec<u8>>; (MOST_N - LEAST_N + 1) as usize] =
+        [const { OnceLock::new() }; (MOST_N - LEAST_N + 1) as usize];
+    if light(h) {
+        return None;
+    }
+    let table = &TABLES[(h.n - LEAST_N) as usize];
+    Some(table.get_or_init(|| drawn(h)))
+}
+
+/// The codes of a shared table, one too many.
+fn drawn(h: Hall) -> Vec<u8> {
+    let mut random = Random::new(SHARED_SEED + u64::from(h.n));
+    let (count, cell) = (hall_codes(h), codes_of(h, 2));
+    let mut table = Vec::with_capacity(count + 1);
+    for share in SHARES.iter().cycle().take(count / cell) {
+        table.extend(codes(&mut random, cell, *share));
+    }
+    table.push(UP);
+    table
+}
+
+#[cfg(test)]
+mod tests {
+    use super::*;
+
+    #[test]
+    fn tables_have_the_lengths_of_their_halls() {
+        let h = Hall { n: 4, k: 1, b: 0 };
+        assert_eq!((hall_codes(h), cell_codes(h)), (40, 8));
+        let h = Hall { n: 3, k: 3, b: 1 };
+        assert_eq!((hall_codes(h), cell_codes(h)), (97_968, 48));
+        let mut random = Random::new(1);
+        let (table, uid) = sound_hall_table(&mut random, h, 5);
+        assert_eq!(table.len(), 97_968);
+        assert_eq!(uid / 156, 1);
+    }
+
+    #[test]
+    fn the_share_that_is_not_up_is_as_asked() {
+        let mut random = Random::new(2);
+        for share in [0, 5, 70] {
+            let table = codes(&mut random, 100_000, share);
+            let not_up = table.iter().filter(|&&code| code != UP).count() as u32;
+            assert!(not_up.abs_diff(share * 1000) < 1000, "{not_up}");
+        }
+    }
+
+    #[test]
+    fn all_256_codes_are_met() {
+        let mut random = Random::new(3);
+        let table = codes(&mut random, 100_000, MOST_NOT_UP);
+        assert!((0..=255).all(|code| table.contains(&code)));
+        let known = known_codes(&mut random, 1000);
+        assert!((0..5).all(|code| known.contains(&code)) && known.iter().all(|&code| code < 5));
+        assert!((0..1000).all(|_| unknown_code(&mut random) >= 5));
+    }
+
+    #[test]
+    fn shared_tables_serve_the_right_length_and_one_code_more() {
+        let h = Hall { n: 3, k: 3, b: 0 };
+        let mut random = Random::new(4);
+        let mut met = [false; 3];
+        for _ in 0..1000 {
+            let length = any_hall_table(&mut random, h).len();
+            if let 97_967..=97_969 = length {
+                met[length - 97_967] = true;
+            }
+        }
+        assert_eq!(met, [true; 3]);
+    }
+
+    #[test]
+    fn a_long_table_is_shown_by_its_codes_that_are_not_up() {
+        let mut codes = vec![UP; 1000];
+        codes[7] = 2;
+        let shown = format!("{:?}", Table::Own(codes));
+        assert_eq!(shown, "1000 codes all 1 but {7: 2}");
+        assert_eq!(
+            format!("{:?}", Table::Own(vec![1, 3])),
+            "2 codes [1, 3]"
+        );
+    }
+}
