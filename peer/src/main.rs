@@ -1,4 +1,4 @@
-//! Compares the proved calls with the separate implementation, and measures the one against the other.
+//! Compares the proved calls with the separate implementation, measures the one against the other, and works out the paper's Table 1.
 
 #![deny(unsafe_code)]
 
@@ -10,12 +10,13 @@ use std::env;
 use std::process::ExitCode;
 use std::time::{SystemTime, UNIX_EPOCH};
 
-use compare::{bench, tally::Effort};
+use compare::{bench, table1, tally::Effort};
 
 /// How the program is called.
 const USAGE: &str = "\
 usage: peer compare [--seed S] [--long]   compare every call on random inputs
-       peer bench [--seed S]              measure every call against the peer";
+       peer bench [--seed S]              measure every call against the peer
+       peer table1 [--seed S]             work out the paper's Table 1 with the proved route";
 /// The exit status of a call that the usage does not allow.
 const BAD_USAGE: u8 = 2;
 
@@ -24,23 +25,31 @@ const BAD_USAGE: u8 = 2;
 enum Work {
     Compare { seed: Option<u64>, effort: Effort },
     Bench { seed: Option<u64> },
+    Table1 { seed: Option<u64> },
 }
 
 fn main() -> ExitCode {
     let words: Vec<String> = env::args().skip(1).collect();
-    match parse(&words) {
-        Some(Work::Compare { seed, effort }) => {
-            if !compare::run(seed.unwrap_or_else(fresh_seed), effort) {
-                return ExitCode::FAILURE;
-            }
-        }
-        Some(Work::Bench { seed }) => bench::run(seed.unwrap_or_else(fresh_seed)),
+    match parse(&words).map(done) {
+        Some(true) => ExitCode::SUCCESS,
+        Some(false) => ExitCode::FAILURE,
         None => {
             eprintln!("{USAGE}");
-            return ExitCode::from(BAD_USAGE);
+            ExitCode::from(BAD_USAGE)
         }
     }
-    ExitCode::SUCCESS
+}
+
+/// Does the work; answers whether all was well.
+fn done(work: Work) -> bool {
+    match work {
+        Work::Compare { seed, effort } => compare::run(seed.unwrap_or_else(fresh_seed), effort),
+        Work::Bench { seed } => {
+            bench::run(seed.unwrap_or_else(fresh_seed));
+            true
+        }
+        Work::Table1 { seed } => table1::run(seed.unwrap_or_else(fresh_seed)),
+    }
 }
 
 /// The work that the words ask for; none where they are not as the usage says.
@@ -64,6 +73,7 @@ fn parse(words: &[String]) -> Option<Work> {
     match name.as_str() {
         "compare" => Some(Work::Compare { seed, effort }),
         "bench" => Some(Work::Bench { seed }),
+        "table1" => Some(Work::Table1 { seed }),
         _ => None,
     }
 }
@@ -100,6 +110,7 @@ mod tests {
             parsed("bench --seed 7"),
             Some(Work::Bench { seed: Some(7) })
         );
+        assert_eq!(parsed("table1"), Some(Work::Table1 { seed: None }));
     }
 
     #[test]
@@ -112,6 +123,7 @@ mod tests {
             "compare --seed -1",
             "compare short",
             "bench --long",
+            "table1 --long",
         ];
         for line in lines {
             assert_eq!(parsed(line), None, "{line}");

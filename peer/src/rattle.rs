@@ -105,12 +105,7 @@ mod foreign {
             room: *mut u32,
             length: usize,
         ) -> u32;
-        pub fn calls_payload(
-            frame: *const u8,
-            bytes: usize,
-            room: *mut u8,
-            length: usize,
-        ) -> u32;
+        pub fn calls_payload(frame: *const u8, bytes: usize, room: *mut u8, length: usize) -> u32;
         pub fn calls_next_identification(identification: u32) -> u32;
         pub fn calls_broadcast(
             n: u32,

@@ -1,19 +1,19 @@
 -- Laws of the call: what an input that is not refused is like, and that rounds over the run of the table for the source's DCell(s)
 -- are the rounds over the hall table.
-use mathlib.Core.Path.{_≡_, refl, sym, _∙_, ap}
-use mathlib.Core.Bool.{Bool, true, false}
-use mathlib.Core.List.{List, [], _∷_, _++_}
-use Prim.Native.Nat.{ℕ, zero, suc, _+_, _-_, _*_, _/_, _%_, _≤_, _<_}
+use mathlib.Core.Path.{_≡_, sym, _∙_, ap}
+use mathlib.Core.Bool.{Bool, true}
+use mathlib.Core.List.{List, _++_}
+use Prim.Native.Nat.{ℕ, _+_, _-_, _*_, _/_, _%_, _≤_, _<_}
 use native.Mathlib.Nat.{mod-lt}
 use native.Mathlib.Omega.{arith}
 use lib.Dec.{eqb, leb, ltb}
-use lib.ListN.{length, take, drop, set, replicate, length-set, length-replicate, length-append, length-drop}
+use lib.ListN.{length, take, drop, replicate, length-set, length-replicate, length-append}
 use lib.Seq.{take-at, drop-at}
 use borrow.Author.Tests.{eqb-true, ne-eqb, leb-true, ltb-true}
 use Rattle.combine.specs.Tests.{pick}
 use Rattle.combine.proofs.Tests.{cases}
 use Rattle.hall.specs.declared.Hall.{Hall}
-use Rattle.hall.specs.Cells.{t, cell}
+use Rattle.hall.specs.Cells.{cell}
 use Rattle.hall.specs.Halls.{valid, servers}
 use Rattle.hall.specs.Refusals.{bad-hall, bad-length, bad-uid, bad-address, short-room}
 use Rattle.hall.proofs.Growth.{valid-known, valid-pos}
@@ -21,7 +21,7 @@ use Rattle.ports.specs.Codes.{tableLength, cellLength, run}
 use Rattle.ports.specs.Links.{joined}
 use Rattle.ports.proofs.Parts.{Sound, run-within}
 use Rattle.ports.proofs.Runs.{joined-run}
-use Rattle.search.specs.Rounds.{start, distances, reachedCount, lastRound}
+use Rattle.search.specs.Rounds.{start, distances}
 use Rattle.search.specs.Reach.{Agree}
 use Rattle.search.proofs.Rounds.{length-marks}
 use Rattle.search.proofs.Distance.{distances-agree}

@@ -1,16 +1,13 @@
 -- Laws of places: the place of a server read as digits, stepped to the next, gives the neighbour without a division.
 use mathlib.Core.Path.{_≡_, refl, sym, _∙_, ap}
-use mathlib.Core.Bool.{Bool, true, false}
-use Prim.Native.Nat.{ℕ, zero, suc, _+_, _-_, _*_, _/_, _%_, _≤_, _<_}
-use native.Mathlib.Nat.{mod-lt, div-add-mod', div-eq-of-lt, mod-eq-of-lt}
+use Prim.Native.Nat.{ℕ, _+_, _-_, _*_, _/_, _%_, _<_}
+use native.Mathlib.Nat.{mod-lt}
 use native.Mathlib.Omega.{arith}
-use lib.Dec.{leb, ltb}
-use borrow.Author.Tests.{ltb-true, ltb-false, lt-ltb, le-ltb}
-use Rattle.combine.specs.Tests.{pick}
+use lib.Dec.{ltb}
+use borrow.Author.Tests.{ltb-true, ltb-false}
 use Rattle.combine.proofs.Tests.{cases}
-use Rattle.hall.specs.Cells.{subOver, neighbourOver}
+use Rattle.hall.specs.Cells.{neighbourOver}
 use Rattle.hall.proofs.Place.{place-up, place-sub, place-inside, sub-below, made, inside-of}
-use Rattle.broadcast.specs.declared.places.Place.{Place}
 use Rattle.broadcast.specs.Sweeps.{placeAt, nextPlace, neighbourAt}
 
 -- the place of server r of sub-cell p of cell c

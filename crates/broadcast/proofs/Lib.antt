@@ -6,3 +6,4 @@ pub mod Reaches
 pub mod Whole
 pub mod Refusals
 pub mod Calls
+pub mod Meaning

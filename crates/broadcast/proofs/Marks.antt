@@ -2,16 +2,15 @@
 -- passes either test; and a sweep whose test is that of a round is the round.
 use mathlib.Core.Path.{_≡_, refl, sym, _∙_, ap}
 use mathlib.Core.Bool.{Bool, true, false}
-use mathlib.Core.List.{List, [], _∷_, _++_}
+use mathlib.Core.List.{List}
 use mathlib.Core.Logic.{_⊎_, inl, inr}
-use Prim.Native.Nat.{ℕ, zero, suc, _+_, _-_, _*_, _≤_, _<_}
+use Prim.Native.Nat.{ℕ, _+_, _-_, _≤_, _<_}
 use native.Mathlib.Omega.{arith}
 use lib.Dec.{eqb, leb, ltb}
-use lib.ListN.{length, getD, drop, set, length-set, List·getD-eq-default}
-use lib.Seq.{getD-set-same, getD-set-other, ext-getD}
+use lib.ListN.{length, getD, set, length-set, List·getD-eq-default}
+use lib.Seq.{getD-set-same, getD-set-other}
 use borrow.Author.Tests.{eqb-true, eqb-false, eq-eqb, ne-eqb, ltb-true, ltb-false, lt-ltb, le-ltb, lt-leb}
 use Rattle.combine.specs.Tests.{pick, both, either, anyBelow}
-use Rattle.combine.specs.Lists.{upTo}
 use Rattle.combine.proofs.Tests.{cases, never, both-ways, both-left, both-right, both-true, either-cases, either-true, either-false, any-in, any-some, any-cong}
 use Rattle.broadcast.specs.Broadcasts.{none}
 use Rattle.broadcast.specs.Sweeps.{fresh, swept, Sweep}

@@ -2,21 +2,20 @@
 -- so the sweeps of a round make the round.
 use mathlib.Core.Path.{_≡_, refl, sym, _∙_, ap, fun-ext}
 use mathlib.Core.Bool.{Bool, true, false}
-use mathlib.Core.List.{List, [], _∷_, _++_}
-use Prim.Native.Nat.{ℕ, zero, suc, _+_, _-_, _*_, _/_, _%_, _≤_, _<_}
+use mathlib.Core.List.{List}
+use Prim.Native.Nat.{ℕ, zero, suc, _+_, _-_, _*_, _/_, _≤_, _<_}
 use native.Mathlib.Nat.{le-trans, div-mul-le-self, mod-lt}
 use native.Mathlib.Numerals.{add-one}
 use native.Mathlib.Omega.{arith}
 use lib.Dec.{eqb, leb, ltb}
 use lib.Arith.{digits-div}
-use lib.ListN.{length, getD, drop}
+use lib.ListN.{length, getD}
 use lib.Seq.{ext-getD}
-use borrow.Author.Tests.{eqb-true, eqb-false, eq-eqb, ne-eqb, ltb-true, ltb-false, lt-ltb, le-ltb, leb-true, leb-false, le-leb, lt-leb}
+use borrow.Author.Tests.{eqb-true, ltb-true, ltb-false, lt-ltb, le-ltb, leb-true, le-leb, lt-leb}
 use Rattle.combine.specs.Tests.{pick, both, either, anyBelow}
-use Rattle.combine.specs.Lists.{upTo}
-use Rattle.combine.proofs.Tests.{cases, never, both-ways, both-left, both-right, both-true, any-in, any-some, any-cong}
+use Rattle.combine.proofs.Tests.{cases, never, both-ways, both-left, both-right, any-in, any-some}
 use Rattle.hall.specs.declared.Hall.{Hall}
-use Rattle.hall.specs.Cells.{t, cell, same, subOver, neighbour}
+use Rattle.hall.specs.Cells.{t, cell, same, neighbour}
 use Rattle.hall.proofs.Cells.{same-mono, neighbour-stays}
 use Rattle.hall.proofs.Place.{sub-below}
 use Rattle.hall.proofs.Growth.{t-more, t-up}
@@ -29,7 +28,7 @@ use Rattle.search.proofs.Filled.{filled-behind}
 use Rattle.broadcast.specs.Broadcasts.{none}
 use Rattle.broadcast.specs.Sweeps.{reachedBy, fresh, swept, Sweep, between, openOn, onSwitch, onSwitches, overLink, onLinks, onLevels, within, placeAt, neighbourAt, PlaceFits, RoundFits}
 use Rattle.broadcast.specs.declared.places.Place.{Place}
-use Rattle.broadcast.proofs.Marks.{below, swept-new, swept-old, fresh-inside, fresh-none, fresh-passes, sweep-reads}
+use Rattle.broadcast.proofs.Marks.{below, swept-old, sweep-reads}
 
 -- who fails the test is not fresh
 pub fresh-fails : (q : ℕ → Bool) (old : List ℕ) (x : ℕ) → q x ≡ false → fresh q old x ≡ false

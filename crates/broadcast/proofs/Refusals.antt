@@ -1,5 +1,5 @@
 -- Laws of refusals: which number the broadcast call gives, by its five tests in their order.
-use mathlib.Core.Path.{_≡_, refl, sym, _∙_, ap}
+use mathlib.Core.Path.{_≡_, refl, sym, _∙_}
 use mathlib.Core.Bool.{Bool, true, false}
 use mathlib.Core.List.{List, [], _∷_}
 use Prim.Native.Nat.{ℕ, min, _≤_, _<_}
@@ -8,13 +8,12 @@ use lib.Dec.{eqb, leb, ltb}
 use lib.ListN.{length}
 use borrow.Author.Tests.{eq-eqb, lt-ltb, leb-true, le-leb, lt-leb}
 use Rattle.combine.specs.Tests.{pick}
-use Rattle.combine.proofs.Tests.{cases}
 use Rattle.hall.specs.declared.Hall.{Hall}
 use Rattle.hall.specs.Halls.{valid, servers}
 use Rattle.hall.specs.Refusals.{refusal, bad-hall, bad-length, bad-uid, bad-address, short-room}
 use Rattle.ports.specs.Codes.{tableLength}
 use Rattle.ports.specs.Answers.{partRefusal}
-use Rattle.ports.proofs.Parts.{refused-uid, Sound, sound}
+use Rattle.ports.proofs.Parts.{refused-uid, Sound}
 use Rattle.broadcast.specs.Broadcasts.{scopeFits, scopeSize, broadcastRefusal}
 
 refused-by : (a b c d e : Bool) → refusal ((bad-hall, a) ∷ (bad-length, b) ∷ (bad-uid, c) ∷ (bad-address, d) ∷ (short-room, e) ∷ [])

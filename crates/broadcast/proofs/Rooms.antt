@@ -1,15 +1,12 @@
 -- Laws of the room before and behind the rounds: how it is cleared, and how its numbers are counted.
-use mathlib.Core.Path.{_≡_, refl, sym, _∙_, ap}
+use mathlib.Core.Path.{_≡_, refl, _∙_, ap}
 use mathlib.Core.List.{List, [], _∷_, _++_}
-use Prim.Native.Nat.{ℕ, zero, suc, max, _+_, _≤_, _<_}
+use Prim.Native.Nat.{ℕ, zero, suc, max, _+_}
 use native.Mathlib.Numerals.{add-one}
-use native.Mathlib.Omega.{arith}
-use lib.Dec.{eqb}
-use lib.ListN.{length, getD, drop, set, replicate, replicate-append-replicate}
+use lib.ListN.{getD, replicate, replicate-append-replicate}
 use borrow.Author.Tests.{ne-eqb}
-use Rattle.combine.specs.Tests.{pick}
 use Rattle.combine.specs.Lists.{upTo}
-use Rattle.search.specs.Rounds.{reachedCount, lastRound}
+use Rattle.search.specs.Rounds.{lastRound}
 use Rattle.broadcast.specs.Broadcasts.{none}
 
 -- one value at each place

@@ -1,15 +1,15 @@
 -- Laws of the rounds as a whole: the two kinds of sweeps make a round, rounds make the marks, and the first round that reaches nobody
 -- leaves the numbers that all rounds would.
-use mathlib.Core.Path.{_≡_, refl, sym, _∙_, ap}
-use mathlib.Core.Bool.{Bool, true, false}
-use mathlib.Core.List.{List, [], _∷_, _++_}
-use Prim.Native.Nat.{ℕ, zero, suc, _+_, _-_, _*_, _/_, _%_, _≤_, _<_}
+use mathlib.Core.Path.{_≡_, sym, _∙_, ap}
+use mathlib.Core.Bool.{Bool, false}
+use mathlib.Core.List.{List, _++_}
+use Prim.Native.Nat.{ℕ, _+_, _-_, _*_, _/_, _<_}
 use native.Mathlib.Nat.{mul-div-cancel}
 use native.Mathlib.Numerals.{add-one}
 use native.Mathlib.Omega.{arith}
-use lib.ListN.{length, take, drop, set, replicate, length-replicate, take-append-drop}
+use lib.ListN.{drop, set, replicate, length-replicate, take-append-drop}
 use lib.Seq.{set-append-left}
-use Rattle.combine.specs.Tests.{pick, both, either, anyBelow}
+use Rattle.combine.specs.Tests.{either, anyBelow}
 use Rattle.hall.specs.declared.Hall.{Hall}
 use Rattle.hall.specs.Cells.{t}
 use Rattle.ports.specs.Links.{joined}

@@ -1,11 +1,10 @@
 -- The rounds of a broadcast within a scope, and what the call answers and writes.
 -- Sections "Broadcast" and "Refusal numbers".
-use mathlib.Core.Bool.{Bool, true, false}
+use mathlib.Core.Bool.{Bool}
 use mathlib.Core.List.{List, [], _∷_, _++_}
 use Prim.Native.Nat.{ℕ, min, _+_, _*_, _%_}
-use lib.Dec.{eqb, leb}
+use lib.Dec.{leb}
 use lib.ListN.{length, drop}
-use Rattle.combine.specs.Tests.{pick}
 use Rattle.hall.specs.declared.Hall.{Hall}
 use Rattle.hall.specs.Refusals.{Ask, refusal, answered, bad-address, short-room}
 use Rattle.hall.specs.Cells.{t, cell}

@@ -6,7 +6,7 @@ use Prim.Native.Nat.{ℕ, _+_, _*_, _<_, _≤_}
 use native.Mathlib.Nat.{mul-le-mul}
 use native.Mathlib.Omega.{arith}
 use lib.Dec.{eqb, ltb, leb}
-use lib.ListN.{length, getD}
+use lib.ListN.{length, getD, replicate}
 use borrow.Author.Tests.{eq-eqb, ne-eqb, eqb-true, lt-ltb, le-ltb, ltb-true, le-leb, lt-leb, leb-true}
 use Rattle.combine.specs.Tests.{pick, both, either}
 use Rattle.combine.proofs.Tests.{cases, either-cases}
@@ -18,13 +18,15 @@ use Rattle.hall.specs.Halls.{valid, servers, largest, asksHall}
 use Rattle.hall.specs.Refusals.{refusal, bad-length}
 use Rattle.hall.specs.Answers.{sizeAt, sizesOf}
 use Rattle.hall.proofs.Growth.{Valid, valid-known, valid-size, size-at}
-use Rattle.ports.specs.Codes.{cellLength}
-use Rattle.ports.specs.Answers.{asksCell}
+use Rattle.ports.specs.Codes.{tableLength, cellLength}
+use Rattle.ports.specs.Answers.{asksTable, asksCell}
 use Rattle.forward.specs.declared.Packet.{Packet}
 use Rattle.forward.specs.declared.Step.{Step}
+use Rattle.forward.specs.declared.Journey.{Journey}
 use Rattle.forward.specs.Steps.{step}
-use Rattle.forward.specs.Answers.{asksPacket, noPacket, stepOf}
-use Rattle.forward.specs.Inside.{Here, Sound, asksBelow}
+use Rattle.forward.specs.Journeys.{trip}
+use Rattle.forward.specs.Answers.{most-passed, asksPacket, noPacket, stepOf, journeyFrom, journeyOf}
+use Rattle.forward.specs.Inside.{Here, Sound, Departing, asksBelow}
 
 -- the tests of a packet, in order
 packet-tests : (c d e f : Bool) → refusal ((2, c) ∷ (2, d) ∷ (2, e) ∷ (8, f) ∷ []) ≡ pick c (pick d (pick e (pick f 0 8) 2) 2) 2
@@ -148,8 +150,8 @@ unrefused h level table me p z =
     let l : Bool = eqb (length table) (cellLength h level) in
     let x : Bool = either (not (p .«has_proxy»)) (ltb (p .proxy) (servers h)) in
     let w = six (valid h) l (ltb me (servers h)) (ltb (p .dst) (servers h)) x (leb (p .retry) 15)
-    (sym (all-tests (valid h) l (ltb me (servers h)) (ltb (p .dst) (servers h)) x (leb (p .retry) 15)
-    ∙ rw (packet-tests (ltb me (servers h)) (ltb (p .dst) (servers h)) x (leb (p .retry) 15))) ∙ z) in
+        (sym (all-tests (valid h) l (ltb me (servers h)) (ltb (p .dst) (servers h)) x (leb (p .retry) 15)
+        ∙ rw (packet-tests (ltb me (servers h)) (ltb (p .dst) (servers h)) x (leb (p .retry) 15))) ∙ z) in
     record {
       sound = w .0;
       long = eqb-true (length table) (cellLength h level) (w .1);
@@ -172,3 +174,23 @@ module _ (h : Hall) (me : ℕ) (p : Packet) (table : List ℕ) (r : ℕ) (e : r 
 
   pub step-sound : r ≡ 0 → Here h table me × Sound h p
   step-sound z = let u = unrefused h (h .b) table me p (sym e ∙ z) in (record { sound = u .sound; long = u .long; fits = u .fits }, u .packet)
+
+-- what a journey answers behind its refusals
+module _ (h : Hall) (me : ℕ) (p : Packet) (table : List ℕ) (r : ℕ)
+    (e : r ≡ refusal (asksHall h ∷ (bad-length, eqb (length table) (cellLength h (h .k))) ∷ asksPacket h me p)) where
+  hall-length : cellLength h (h .k) ≡ tableLength h
+  unfolding cellLength tableLength servers
+  hall-length = refl
+
+  is-refusal : r ≡ refusal (asksHall h ∷ asksTable h table ∷ asksPacket h me p)
+  is-refusal = e ∙ rw hall-length
+
+  pub journey-refused : (r ≡ 0 → ⊥) → (none : List ℕ) → none ≡ replicate most-passed 0
+      → _≡_ {A = Journey} (record { refusal = r; ending = 0; links = 0; reroutes = 0; uids = none }) (journeyOf h me p table)
+  journey-refused ne none q = rw (← is-refusal, ne-eqb r 0 ne, q)
+
+  pub journey-answered : r ≡ 0 → (j : Journey) → j ≡ journeyFrom (trip h table me p) → j ≡ journeyOf h me p table
+  journey-answered z j q = rw (← is-refusal, z) q
+
+  pub journey-sound : r ≡ 0 → Departing h table me p
+  journey-sound z = let u = unrefused h (h .k) table me p (sym e ∙ z) in record { sound = u .sound; long = u .long ∙ hall-length; fits = u .fits; packet = u .packet }

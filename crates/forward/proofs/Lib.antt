@@ -1,4 +1,4 @@
--- The laws, and what the code's proofs cite of them.
+-- The laws.
 pub mod Passes
 pub mod Chosen
 pub mod Steps
@@ -12,3 +12,4 @@ pub mod CodeWays
 pub mod CodeChoice
 pub mod CodeAsks
 pub mod CodeSteps
+pub mod CodeTrips

@@ -11,7 +11,7 @@ use Rattle.hall.specs.declared.Hall.{Hall}
 use Rattle.hall.specs.Cells.{same}
 use Rattle.hall.specs.Halls.{valid, servers}
 use Rattle.hall.specs.Refusals.{Ask, bad-uid}
-use Rattle.ports.specs.Codes.{cellLength}
+use Rattle.ports.specs.Codes.{tableLength, cellLength}
 use Rattle.route.specs.declared.Crossing.{Crossing}
 use Rattle.route.specs.declared.Crossing.the-variants.{Link, Nothing}
 use Rattle.route.specs.Answers.{firstLink}
@@ -87,3 +87,10 @@ pub record Placed (h : Hall) (me place level : ℕ) : Type 0 where
   pub inside : place < cellSize h
   pub low : 0 < level
   pub high : level ≤ h .k
+
+-- a hall, its table, a server and a packet there
+pub record Departing (h : Hall) (table : List ℕ) (me : ℕ) (p : Packet) : Type 0 where
+  pub sound : valid h ≡ true
+  pub long : length table ≡ tableLength h
+  pub fits : me < servers h
+  pub packet : Sound h p

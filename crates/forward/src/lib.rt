@@ -6,7 +6,7 @@ ghost use mathlib.Core.Bool.{true, not};
 ghost use mathlib.Core.List.{_∷_};
 ghost use Prim.Native.Nat.{_+_, _-_, _≤_, _<_};
 ghost use lib.Dec.{eqb, ltb};
-ghost use lib.ListN.{length};
+ghost use lib.ListN.{length, replicate};
 ghost use Rattle.combine.specs.Tests.{pick, both, either};
 ghost use Rattle.hall.specs.Cells.{same, neighbour};
 ghost use Rattle.hall.specs.Halls.{valid, asksHall};
@@ -17,8 +17,9 @@ ghost use Rattle.forward.specs.Packets.{cleared, tidied, proxied, retrie
 ghost use Rattle.forward.specs.Seen.{seen, usable};
 ghost use Rattle.forward.specs.Proxies.{choice};
 ghost use Rattle.forward.specs.Steps.{stepFrom, rerouteOn, step};
-ghost use Rattle.forward.specs.Answers.{asksPacket, noPacket, stepOf};
-ghost use Rattle.forward.specs.Inside.{Here, Target, Ahead, Standing, Stopped, Placed, Sound, wayTo, wayOver, asksBelow};
+ghost use Rattle.forward.specs.Journeys.{trip};
+ghost use Rattle.forward.specs.Answers.{asksPacket, most-passed, noPacket, stepOf, journeyFrom, journeyOf};
+ghost use Rattle.forward.specs.Inside.{Here, Target, Ahead, Standing, Stopped, Placed, Sound, Departing, wayTo, wayOver, asksBelow};
 use crate::endings::DELIVERED;
 use crate::endings::DROP_PROXY;
 use crate::endings::DROP_RETRY;
@@ -345,15 +346,7 @@ fn step_from(h: Hall, table: &[u8], me: u32, came: Packet, p: Packet, arrived: b
 }
 
 // The step by another way, with one retry less.
-fn reroute(
-    h: Hall,
-    table: &[u8],
-    me: u32,
-    came: Packet,
-    link: Crossing,
-    p: Packet,
-    arrived: bool,
-) -> Step
+fn reroute(h: Hall, table: &[u8], me: u32, came: Packet, link: Crossing, p: Packet, arrived: bool) -> Step
     requires { ⌜ Stopped h (now table) me link p ⌝ }
     ensures { λ r. ⌜ r ≡ rerouteOn h (seen h (now (table .entry))) me came (p .retry) link p arrived ⌝ }
 {
@@ -363,11 +356,7 @@ fn reroute(
     let q = retried(p);
     match link {
         Crossing::Nothing => counted(step_from(h, table, me, came, cleared(q), false)),
-        Crossing::Link {
-            near: _,
-            far: _,
-            level,
-        } => {
+        Crossing::Link { near: _, far: _, level } => {
             match choose(h, table, me, first_level(h, level, arrived)) {
                 Candidate::Nothing => ended(DROP_PROXY, came),
                 Candidate::At { place, level: at } => {
@@ -473,4 +462,59 @@ pub fn forward_step(h: Hall, uid: u32, packet: Packet, table: &[u8]) -> Step
         };
     }
     step_at(h, table, uid, packet)
+}
+
+// No uid passed.
+fn no_uids() -> [u32; MOST_PASSED]
+    ensures { λ r. ⌜ r ≡ replicate most-passed 0 ⌝ }
+{
+    [0u32; MOST_PASSED]
+}
+
+// The journey of a packet that nothing refuses.
+fn travel(h: Hall, table: &[u8], source: u32, packet: Packet) -> Journey
+    requires { ⌜ Departing h (now table) source packet ⌝ }
+    ensures { λ r. ⌜ r ≡ journeyFrom (trip h (now (table .entry)) source packet) ⌝ }
+{
+    let mut uids = no_uids();
+    let mut me = source;
+    let mut p = packet;
+    let mut reroutes: u32 = 0;
+    let mut at: usize = 0;
+    loop {
+        uids[at] = me;
+        let part = ports::part_of(h, table, me);
+        let o = step_at(h, part, me, p);
+        reroutes += o.reroutes;
+        if o.ending != FORWARDED {
+            return Journey {
+                refusal: 0,
+                ending: o.ending,
+                links: at as u32,
+                reroutes,
+                uids,
+            };
+        }
+        me = o.next;
+        let sent = o.packet;
+        p = sent;
+        at += 1;
+    }
+}
+
+// A journey from a source, over the hall table.
+pub fn journey_of(h: Hall, source: u32, packet: Packet, table: &[u8]) -> Journey
+    ensures { λ r. ⌜ r ≡ journeyOf h source packet (now (table .entry)) ⌝ }
+{
+    let number = refused(h, h.k, table, source, packet);
+    if number != 0 {
+        return Journey {
+            refusal: number,
+            ending: 0,
+            links: 0,
+            reroutes: 0,
+            uids: no_uids(),
+        };
+    }
+    travel(h, table, source, packet)
 }

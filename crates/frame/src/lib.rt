@@ -74,8 +74,9 @@ pub fn payload_of(frame: &[u8]) -> &[u8]
     }
     let first = word_at(frame, 0);
     let start = 4 * (first / DHL_AT % BITS_4) as usize;
-    let end = start + (first % BITS_16) as usize;
-    &frame[start..end]
+    let length = (first % BITS_16) as usize;
+    let rest = &frame[start..];
+    &rest[..length]
 }
 
 // Writes the 20 or 24 header bytes at the start of the room and answers 0; or answers a refusal and leaves the room as lent.

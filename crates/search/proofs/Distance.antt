@@ -15,7 +15,7 @@ use Rattle.search.specs.Rounds.{distances}
 use Rattle.search.specs.Reach.{reach, Far, Means, far, near, Walk, Symmetric, Agree}
 use Rattle.search.proofs.Rounds.{length-marks}
 use Rattle.search.proofs.Reach.{reach-origin, reach-none, reach-step, reach-back, LastLink, walk-reach, reach-symmetric, reach-agree}
-use Rattle.search.proofs.Least.{reached, marks-mean}
+use Rattle.search.proofs.Least.{marks-mean}
 
 -- two numbers that mean the same are one
 pub means-one : (adj : ℕ → ℕ → Bool) (n none o v : ℕ) (other : ℕ → ℕ → Bool) (p w d e : ℕ)

@@ -12,9 +12,13 @@ use super::calls::CALLS;
 /// The rounds of a case, a ratio each; an odd number, so that one of them is the median.
 const ROUNDS: usize = 15;
 /// The bursts of a round, in which one side is timed and then the other; the shortest of each side counts, as it was disturbed least.
-const BURSTS: usize = 20;
+const BURSTS: u32 = 20;
+/// The bursts of a round where one takes long.
+const FEW_BURSTS: u32 = 3;
 /// The time that a burst takes at least on the peer's side, well below what a process gets at a time on a busy machine.
 const BURST: Duration = Duration::from_micros(100);
+/// The time above which a burst takes long.
+const LONG_BURST: Duration = Duration::from_millis(2);
 
 /// The ratios of a case, a round each, in rising order.
 pub struct Measure {
@@ -42,7 +46,7 @@ fn row(call: &str, measure: &Measure) -> String {
 
 /// A line of the table, its columns one below the other.
 fn line(call: &str, case: &str, median: &str, spread: &str) -> String {
-    format!("{call:<12} | {case:<14} | {median:>6} | {spread}")
+    format!("{call:<12} | {case:<26} | {median:>6} | {spread}")
 }
 
 /// The first, the middle and the last of the ratios.
@@ -70,8 +74,8 @@ fn measure_case<C: Call>(case: &Case<C::Input>, random: &mut Random) -> Measure 
         C::NAME,
         case.name
     );
-    let passes = passes::<C>(&inputs, &mut rooms);
-    let round = |_| ratio::<C>(&inputs, &mut rooms, passes);
+    let pace = pace::<C>(&inputs, &mut rooms);
+    let round = |_| ratio::<C>(&inputs, &mut rooms, pace);
     let mut ratios: Vec<f64> = (0..ROUNDS).map(round).collect();
     ratios.sort_by(f64::total_cmp);
     Measure {
@@ -80,21 +84,35 @@ fn measure_case<C: Call>(case: &Case<C::Input>, random: &mut Random) -> Measure 
     }
 }
 
-/// The passes over the inputs that fill a burst.
-fn passes<C: Call>(inputs: &[C::Input], rooms: &mut C::Rooms) -> u32 {
+/// How a case is measured: the passes over the inputs that fill a burst, and the bursts of a round.
+#[derive(Clone, Copy)]
+struct Pace {
+    passes: u32,
+    bursts: u32,
+}
+
+/// The pace at which the peer's side fills a burst.
+fn pace<C: Call>(inputs: &[C::Input], rooms: &mut C::Rooms) -> Pace {
     let mut passes = 1;
-    while peer_time::<C>(inputs, rooms, passes) < BURST {
+    let mut burst = peer_time::<C>(inputs, rooms, passes);
+    while burst < BURST {
         passes *= 2;
+        burst = peer_time::<C>(inputs, rooms, passes);
     }
-    passes
+    let bursts = if burst > LONG_BURST {
+        FEW_BURSTS
+    } else {
+        BURSTS
+    };
+    Pace { passes, bursts }
 }
 
 /// The ratio of one round.
-fn ratio<C: Call>(inputs: &[C::Input], rooms: &mut C::Rooms, passes: u32) -> f64 {
+fn ratio<C: Call>(inputs: &[C::Input], rooms: &mut C::Rooms, pace: Pace) -> f64 {
     let (mut rattle, mut peer) = (Duration::MAX, Duration::MAX);
-    for _ in 0..BURSTS {
-        rattle = rattle.min(rattle_time::<C>(inputs, rooms, passes));
-        peer = peer.min(peer_time::<C>(inputs, rooms, passes));
+    for _ in 0..pace.bursts {
+        rattle = rattle.min(rattle_time::<C>(inputs, rooms, pace.passes));
+        peer = peer.min(peer_time::<C>(inputs, rooms, pace.passes));
     }
     rattle.as_secs_f64() / peer.as_secs_f64()
 }

@@ -193,10 +193,7 @@ fn numbers(fields: Fields) -> impl Iterator<Item = Fields> {
         ..fields
     });
     let bytes = protocols.into_iter().chain(ttls);
-    bytes
-        .chain(lengths)
-        .chain(retries)
-        .chain(identifications)
+    bytes.chain(lengths).chain(retries).chain(identifications)
 }
 
 /// Fields with addresses of every kind in every place.
@@ -217,20 +214,26 @@ fn addresses(fields: Fields) -> impl Iterator<Item = Fields> {
 pub fn edge_words() -> impl Iterator<Item = u32> {
     (0..u32::BITS).flat_map(|bit| {
         let word = 1u32 << bit;
-        [word - 1, word, word + 1, u32::MAX - word, u32::MAX - (word - 1)]
+        [
+            word - 1,
+            word,
+            word + 1,
+            u32::MAX - word,
+            u32::MAX - (word - 1),
+        ]
     })
 }
 
 /// Two frames with payload and padding, cut at every length.
 fn cuts() -> impl Iterator<Item = Vec<u8>> {
-    let padded = |fields: Fields| {
-        let mut bytes = header(&fields);
-        bytes.extend(0..usize::from(fields.payload_length) as u8 + 3);
-        bytes
-    };
-    let told = |fields| padded(Fields { payload_length: 9, ..fields });
-    [PLAIN, PROXIED].into_iter().flat_map(move |fields| {
-        let frame = told(fields);
+    const PAYLOAD: u8 = 9;
+    const PADDING: u8 = 3;
+    [PLAIN, PROXIED].into_iter().flat_map(|fields| {
+        let mut frame = header(&Fields {
+            payload_length: u16::from(PAYLOAD),
+            ..fields
+        });
+        frame.extend(1..=PAYLOAD + PADDING);
         (0..=frame.len()).map(move |length| frame[..length].to_vec())
     })
 }
@@ -273,9 +276,9 @@ fn checksums() -> impl Iterator<Item = Vec<u8>> {
     };
     let all = (0..=u16::MAX).map(move |sum| with(header(&PLAIN), sum));
     let due = [PLAIN, PROXIED].map(|fields| zero_due(header(&fields)));
-    let turned = due.into_iter().flat_map(move |frame| {
-        [0, 1, 0xFFFE, 0xFFFF].map(|sum| with(frame.clone(), sum))
-    });
+    let turned = due
+        .into_iter()
+        .flat_map(move |frame| [0, 1, 0xFFFE, 0xFFFF].map(|sum| with(frame.clone(), sum)));
     all.chain(turned)
 }
 

@@ -3,8 +3,13 @@
 pub mod bench;
 mod call;
 mod calls;
+mod chains;
+mod frames;
 mod inputs;
+mod pairs;
 mod room;
+pub mod table1;
+mod tables;
 pub mod tally;
 
 use calls::{Listed, CALLS};
@@ -40,7 +45,7 @@ fn row(call: &Listed, tally: &Tally) -> String {
 
 /// A line of the table, its columns one below the other.
 fn line(call: &str, inputs: &str, met: &str, differences: &str) -> String {
-    format!("{call:<12} | {inputs:>9} | {met:<56} | {differences}")
+    format!("{call:<12} | {inputs:>9} | {met:<76} | {differences}")
 }
 
 /// What is wrong with one call, a text each: the first inputs that differ, numbers never met, and numbers that it cannot give.

@@ -263,9 +263,6 @@ mod tests {
         codes[7] = 2;
         let shown = format!("{:?}", Table::Own(codes));
         assert_eq!(shown, "1000 codes all 1 but {7: 2}");
-        assert_eq!(
-            format!("{:?}", Table::Own(vec![1, 3])),
-            "2 codes [1, 3]"
-        );
+        assert_eq!(format!("{:?}", Table::Own(vec![1, 3])), "2 codes [1, 3]");
     }
 }

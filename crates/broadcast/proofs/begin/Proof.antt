@@ -1,5 +1,5 @@
 -- `broadcast::begin` meets its contract: of the cleared numbers that of the origin is set.
-use mathlib.Core.Path.{_≡_, _∙_, ap}
+use mathlib.Core.Path.{_∙_, ap}
 use mathlib.Core.List.{List}
 use Prim.Native.Nat.{ℕ}
 use lib.ListN.{set, drop}

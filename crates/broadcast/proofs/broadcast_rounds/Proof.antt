@@ -1,14 +1,12 @@
 -- `broadcast::broadcast_rounds` meets its contract: refused, it leaves the room as lent; else the run of the table for the source's DCell(s)
 -- lies within the table, and the rounds over it are the rounds over the hall table.
-use mathlib.Core.Path.{_≡_, refl, _∙_, sym}
-use mathlib.Core.List.{List}
-use Prim.Native.Nat.{ℕ, _+_, _-_, _*_, _/_, _%_, _≤_, _<_}
-use native.Mathlib.Nat.{div-le-self, mul-le-mul}
+use mathlib.Core.Path.{refl, _∙_, sym}
+use Prim.Native.Nat.{_+_, _-_, _*_}
+use native.Mathlib.Nat.{div-le-self}
 use native.Mathlib.Omega.{arith}
-use lib.ListN.{length, take, drop}
 use borrow.Author.Needs.{needs}
 use Rattle.ports.proofs.Parts.{product-fits}
-use Rattle.broadcast.proofs.Calls.{accepted, answer-refused, room-as-lent, low, size-pos, size-small, origin-low, run-ends, run-is, begun-ready, room-long, room-at-exit, answer-is}
+use Rattle.broadcast.proofs.Calls.{accepted, answer-refused, room-as-lent, low, size-pos, origin-low, run-ends, run-is, begun-ready, room-long, room-at-exit, answer-is}
 use Rattle.broadcast.proofs.broadcast_rounds.Statement.{statement}
 use Rattle.broadcast.proofs.broadcast_rounds.Tie as tie
 
@@ -21,10 +19,9 @@ same-length c = search needs
 returns : tie.Need-returns
 returns c =
     let a = c .before .before .before .before .before .args in
-    let n = c .before .refused in (
-      answer-refused (a .h) (a .table .now) (a .source) (a .scope) (a .room .now) (n .result) (n .ensures) (c .if1 .taken),
-      room-as-lent (a .h) (a .table .now) (a .source) (a .scope) (a .room .now) (n .result) (n .ensures) (c .if1 .taken),
-    )
+    let n = c .before .refused in
+    (answer-refused (a .h) (a .table .now) (a .source) (a .scope) (a .room .now) (n .result) (n .ensures) (c .if1 .taken),
+    room-as-lent (a .h) (a .table .now) (a .source) (a .scope) (a .room .now) (n .result) (n .ensures) (c .if1 .taken))
 
 scope-size-requires : tie.Need-scope-size-requires
 scope-size-requires c κs =
@@ -126,10 +123,9 @@ returns-2 c =
     let a = c .before .before .before .before .before .before .before .before .before .before .before .before .before .before .before .before .before .before .args in
     let n = c .before .before .before .before .before .before .before .before .before .before .before .before .before .before .refused in
     let k = accepted (a .h) (a .table .now) (a .source) (a .scope) (a .room .now) (sym (n .ensures) ∙ c .before .before .before .before .before .before .before .before .before .before .before .before .before .if1 .left) in
-    let z = c .before .before .before .before .before .before .before .before .before .before .before .before .scope-size in (
-      answer-is (a .h) (a .table .now) (a .source) (a .scope) (a .room .now) k (z .result) (z .ensures) _ (c .before .before .before .before .before .before .before .before .before .begin .ensures) _ (run-is (a .h) (a .table .now) (a .source) (a .scope) (a .room .now) k (z .result) (z .ensures) (z .result * (a .h .k + 1)) refl) _ (c .before .before .before .before .run .ensures) (n .result) (n .ensures) (c .before .before .before .before .before .before .before .before .before .before .before .before .before .if1 .left) (c .tally .result) (c .tally .ensures),
-      room-at-exit (a .h) (a .table .now) (a .source) (a .scope) (a .room .now) k (z .result) (z .ensures) _ (c .before .before .before .before .before .before .before .before .before .begin .ensures) _ (run-is (a .h) (a .table .now) (a .source) (a .scope) (a .room .now) k (z .result) (z .ensures) (z .result * (a .h .k + 1)) refl) _ (c .before .before .before .before .run .ensures) (n .result) (n .ensures) (c .before .before .before .before .before .before .before .before .before .before .before .before .before .if1 .left),
-    )
+    let z = c .before .before .before .before .before .before .before .before .before .before .before .before .scope-size in
+    (answer-is (a .h) (a .table .now) (a .source) (a .scope) (a .room .now) k (z .result) (z .ensures) _ (c .before .before .before .before .before .before .before .before .before .begin .ensures) _ (run-is (a .h) (a .table .now) (a .source) (a .scope) (a .room .now) k (z .result) (z .ensures) (z .result * (a .h .k + 1)) refl) _ (c .before .before .before .before .run .ensures) (n .result) (n .ensures) (c .before .before .before .before .before .before .before .before .before .before .before .before .before .if1 .left) (c .tally .result) (c .tally .ensures),
+    room-at-exit (a .h) (a .table .now) (a .source) (a .scope) (a .room .now) k (z .result) (z .ensures) _ (c .before .before .before .before .before .before .before .before .before .begin .ensures) _ (run-is (a .h) (a .table .now) (a .source) (a .scope) (a .room .now) k (z .result) (z .ensures) (z .result * (a .h .k + 1)) refl) _ (c .before .before .before .before .run .ensures) (n .result) (n .ensures) (c .before .before .before .before .before .before .before .before .before .before .before .before .before .if1 .left))
 
 pub broadcast-rounds-spec : {M : Type 1} → statement M
 broadcast-rounds-spec =

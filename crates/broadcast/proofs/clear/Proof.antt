@@ -1,12 +1,12 @@
 -- `broadcast::clear` meets its contract: what the loop has passed is cleared, and the rest is as it was.
-use mathlib.Core.Path.{_≡_, _∙_, sym}
+use mathlib.Core.Path.{_≡_, _∙_}
 use mathlib.Core.List.{_++_}
-use Prim.Native.Nat.{ℕ, _≤_, _-_}
+use Prim.Native.Nat.{_≤_, _-_}
 use native.Mathlib.Omega.{arith}
 use lib.ListN.{length, drop}
 use borrow.Author.Needs.{needs}
 use Rattle.combine.specs.Lists.{upTo}
-use Rattle.combine.proofs.Lists.{up-none, up-more, length-up}
+use Rattle.combine.proofs.Lists.{up-none, up-more}
 use Rattle.broadcast.specs.Broadcasts.{none}
 use Rattle.broadcast.proofs.Rooms.{upTo-one}
 use Rattle.broadcast.proofs.clear.Statement.{statement}

@@ -1,10 +1,8 @@
 -- `broadcast::refused` meets its contract: the table and the uid are asked first, then the scope, then the room.
-use mathlib.Core.Path.{_≡_, _∙_, sym}
-use Prim.Native.Nat.{_<_, _≤_}
+use mathlib.Core.Path.{_∙_, sym}
 use borrow.Author.Needs.{needs}
 use borrow.Author.Tests.{not-true, not-false}
 use Rattle.ports.proofs.Parts.{sound}
-use Rattle.broadcast.specs.Broadcasts.{scopeSize}
 use Rattle.broadcast.proofs.Refusals.{table-refused, scope-refused, room-refused, not-refused, scope-low}
 use Rattle.broadcast.proofs.refused.Statement.{statement}
 use Rattle.broadcast.proofs.refused.Tie as tie

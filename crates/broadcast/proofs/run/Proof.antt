@@ -1,7 +1,7 @@
 -- `broadcast::run` meets its contract: before round r the room begins with the marks before round r, and a round that reaches nobody is the last.
-use mathlib.Core.Path.{_≡_, _∙_, sym}
+use mathlib.Core.Path.{_≡_, _∙_}
 use mathlib.Core.List.{_++_}
-use Prim.Native.Nat.{ℕ, _≤_, _<_, _-_, _+_}
+use Prim.Native.Nat.{_≤_, _-_, _+_}
 use native.Mathlib.Omega.{arith}
 use lib.ListN.{length, drop}
 use borrow.Author.Needs.{needs}
@@ -9,7 +9,6 @@ use borrow.Author.Tests.{not-true}
 use Rattle.ports.specs.Links.{joined}
 use Rattle.search.specs.Rounds.{marks}
 use Rattle.broadcast.specs.Broadcasts.{none}
-use Rattle.broadcast.specs.Sweeps.{RoundFits}
 use Rattle.broadcast.proofs.Reaches.{scope-fits, fits-next}
 use Rattle.broadcast.proofs.Whole.{ready-marks, next-marks, idle-marks}
 use Rattle.broadcast.proofs.run.Statement.{statement}
@@ -65,11 +64,9 @@ loop-again c =
     let k = c .before .before .before .before .before .before .before .before .before .pre in
     let w = c .before .before .before .before .before .before .loop in
     let f = c .before .before .before .one-round in
-    let fits = fits-next (a .h) (a .scope) (a .size) 0 (a .room .now) (k .fits) (w .room) (w .r) (w .inv .1) (omega (arith, scope-fits (a .h) (a .scope) (a .size) 0 (a .room .now) (k .fits))) in (
-      omega arith,
-      f .ensures .long ∙ w .inv .1,
-      next-marks (a .h) (a .table .now) (a .scope) (a .size) (a .origin) (w .r) (w .room) _ (drop (a .size) (a .room .now)) (f .result) fits (w .inv .2) (f .ensures),
-    )
+    let fits = fits-next (a .h) (a .scope) (a .size) 0 (a .room .now) (k .fits) (w .room) (w .r) (w .inv .1) (omega (arith, scope-fits (a .h) (a .scope) (a .size) 0 (a .room .now) (k .fits))) in
+    (omega arith, f .ensures .long ∙ w .inv .1,
+    next-marks (a .h) (a .table .now) (a .scope) (a .size) (a .origin) (w .r) (w .room) _ (drop (a .size) (a .room .now)) (f .result) fits (w .inv .2) (f .ensures))
 
 same-length-2 : tie.Need-same-length-2 Inv-loop μ-loop
 same-length-2 c = c .before .loop .inv .1

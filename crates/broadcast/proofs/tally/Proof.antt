@@ -1,9 +1,8 @@
 -- `broadcast::tally` meets its contract: the loop has counted the numbers that it has passed.
 use mathlib.Core.Path.{_≡_, _∙_, sym}
 use mathlib.Core.Logic.{⊎-elim}
-use Prim.Native.Nat.{ℕ, max, _≤_, _-_, _+_}
+use Prim.Native.Nat.{_≤_, _-_}
 use native.Mathlib.Omega.{arith}
-use lib.ListN.{length}
 use borrow.Author.Needs.{needs}
 use Rattle.search.specs.Rounds.{reachedCount, lastRound}
 use Rattle.search.proofs.Counts.{reached-start, reached-skip, reached-more, last-start, last-skip}

@@ -3,12 +3,26 @@
 //! To add a call: declare it in `rattle.rs`, with a pointer and a length for each slice, and wrap it there; write its module here,
 //! an `impl Call` like the others; add its line to `CALLS`.
 
+mod broadcast;
 mod cell;
+mod check;
+mod check_place;
+mod distances;
+mod distances_origin;
+mod driver_route;
 mod link;
 mod neighbour;
+mod next_hop;
+mod next_identification;
+mod part;
+mod payload;
+mod read_header;
+mod route;
+mod route_links;
 mod sizes;
 mod tuple;
 mod uid;
+mod write_header;
 
 use super::bench::{self, Measure};
 use super::call::Call;
@@ -30,6 +44,20 @@ pub const CALLS: &[Listed] = &[
     listed::<cell::Cell>(),
     listed::<neighbour::Neighbour>(),
     listed::<link::Link>(),
+    listed::<route::Route>(),
+    listed::<route_links::RouteLinks>(),
+    listed::<driver_route::DriverRoute>(),
+    listed::<check::Check>(),
+    listed::<check_place::CheckPlace>(),
+    listed::<part::Part>(),
+    listed::<distances::Distances>(),
+    listed::<distances_origin::DistancesOrigin>(),
+    listed::<next_hop::NextHop>(),
+    listed::<broadcast::Broadcast>(),
+    listed::<read_header::ReadHeader>(),
+    listed::<payload::Payload>(),
+    listed::<write_header::WriteHeader>(),
+    listed::<next_identification::NextIdentification>(),
 ];
 
 /// The longest room that hall's calls are lent, longer than any of their answers.

@@ -1,5 +1,4 @@
 -- `broadcast::places::neighbour_at` meets its contract: the numbers of the largest scope fit.
-use mathlib.Core.Path.{refl}
 use Prim.Native.Nat.{ℕ, _+_, _*_, _≤_}
 use native.Mathlib.Nat.{mul-le-mul}
 use native.Mathlib.Omega.{arith}

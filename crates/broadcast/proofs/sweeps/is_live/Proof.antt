@@ -4,7 +4,6 @@ use mathlib.Core.Bool.{Bool, false}
 use mathlib.Core.List.{List}
 use Prim.Native.Nat.{ℕ, _≤_, _-_, _+_, _*_}
 use native.Mathlib.Omega.{arith}
-use borrow.Author.Needs.{needs}
 use Rattle.combine.specs.Tests.{both, anyBelow}
 use Rattle.combine.proofs.Tests.{any-none, any-more, any-in}
 use Rattle.hall.specs.declared.Hall.{Hall}

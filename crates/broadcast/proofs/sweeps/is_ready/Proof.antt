@@ -1,5 +1,4 @@
 -- `broadcast::sweeps::is_ready` meets its contract: it asks the number and the port in turn.
-use native.Mathlib.Omega.{arith}
 use borrow.Author.Needs.{needs}
 use borrow.Author.Tests.{le-leb, lt-leb}
 use Rattle.broadcast.proofs.sweeps.is_ready.Statement.{statement}

@@ -1,14 +1,11 @@
 -- `broadcast::sweeps::one_round` meets its contract: the sweep over the switches, then that over the levels, is one over the scope.
-use mathlib.Core.Path.{_≡_, _∙_, sym}
-use mathlib.Core.Bool.{Bool, true, false}
-use mathlib.Core.List.{List}
-use Prim.Native.Nat.{ℕ, _≤_, _<_}
+use mathlib.Core.Path.{_≡_}
+use mathlib.Core.Bool.{true}
 use native.Mathlib.Nat.{div-mul-le-self}
 use native.Mathlib.Omega.{arith}
 use borrow.Author.Needs.{needs}
 use Rattle.combine.specs.Tests.{either}
 use Rattle.combine.proofs.Tests.{either-true, either-false}
-use Rattle.broadcast.specs.Sweeps.{Sweep, within, reachedBy}
 use Rattle.broadcast.proofs.Reaches.{scope-fits, fits-again}
 use Rattle.broadcast.proofs.Whole.{sweeps-make}
 use Rattle.broadcast.proofs.sweeps.one_round.Statement.{statement}

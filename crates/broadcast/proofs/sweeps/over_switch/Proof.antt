@@ -1,5 +1,5 @@
 -- `broadcast::sweeps::over_switch` meets its contract: a switch with nobody ready reaches nobody, any other those with port 0 up.
-use mathlib.Core.Path.{_≡_, _∙_, sym}
+use mathlib.Core.Path.{_∙_, sym}
 use borrow.Author.Needs.{needs}
 use borrow.Author.Tests.{not-true, not-false}
 use Rattle.broadcast.specs.Sweeps.{reachedBy, openOn, onSwitch}

@@ -1,5 +1,5 @@
 -- `broadcast::sweeps::over_switches` meets its contract: the loop has swept the switches that it has passed.
-use mathlib.Core.Path.{_≡_, _∙_, sym, ap}
+use mathlib.Core.Path.{_≡_, _∙_, sym}
 use mathlib.Core.Bool.{Bool}
 use mathlib.Core.List.{List}
 use mathlib.Core.Logic.{⊎-elim}
@@ -10,7 +10,7 @@ use lib.ListN.{length}
 use borrow.Author.Needs.{needs}
 use Rattle.combine.specs.Tests.{either}
 use Rattle.combine.proofs.Tests.{either-true, either-false}
-use Rattle.broadcast.specs.Sweeps.{Sweep, SwitchFits, reachedBy, onSwitch, onSwitches}
+use Rattle.broadcast.specs.Sweeps.{Sweep, reachedBy, onSwitch, onSwitches}
 use Rattle.broadcast.proofs.Marks.{sweep-none, sweep-cong, sweep-then}
 use Rattle.broadcast.proofs.Reaches.{reads-same, switches-start, switches-next}
 use Rattle.broadcast.proofs.sweeps.over_switches.Statement.{statement}
@@ -59,13 +59,13 @@ loop-again c =
     let same = reads-same q (a .r) old (w .room) (w .any) (omega (arith, k .3)) (w .inv .2) in
     let mine : Sweep (onSwitch (a .h) (a .table .now) p (w .s)) (a .r) (w .room) _ (f .result) = rw same at (f .ensures) in
     let swept = sweep-cong (λ y. either (q y) (onSwitch (a .h) (a .table .now) p (w .s) y)) (onSwitches (a .h) (a .table .now) p ((w .s + 1) * a .h .n)) (a .r) old _ (either (w .any) (f .result))
-    (switches-next (a .h) (a .table .now) p (w .s) old)
-    (sweep-then q (onSwitch (a .h) (a .table .now) p (w .s)) (a .r) old (w .room) _ (w .any) (f .result) (omega (arith, k .3)) (w .inv .2) mine) in
+        (switches-next (a .h) (a .table .now) p (w .s) old)
+        (sweep-then q (onSwitch (a .h) (a .table .now) p (w .s)) (a .r) old (w .room) _ (w .any) (f .result) (omega (arith, k .3)) (w .inv .2) mine) in
     let told : c .if1 .any ≡ either (w .any) (f .result) =
-    ⊎-elim
-    (λ y. y .1 ∙ rw (y .0 .taken) (sym (either-true (w .any))))
-    (λ y. y .1 ∙ rw (y .0 .left) (sym (either-false (w .any))))
-    (c .if1 .came) in
+        ⊎-elim
+        (λ y. y .1 ∙ rw (y .0 .taken) (sym (either-true (w .any))))
+        (λ y. y .1 ∙ rw (y .0 .left) (sym (either-false (w .any))))
+        (c .if1 .came) in
     (omega arith, swept .long, rw told swept)
 
 same-length : tie.Need-same-length Inv-loop μ-loop

@@ -1,0 +1,98 @@
+-- `forward::travel` meets its contract: what is passed so far before what is left is the whole journey, and the TTL falls with each step.
+use mathlib.Core.Path.{_≡_, _∙_}
+use Prim.Native.Nat.{_+_}
+use native.Mathlib.Omega.{arith}
+use borrow.Author.Needs.{needs}
+use Rattle.forward.proofs.CodeTrips.{Underway, sets-off, part-here, step-is, step-few, ttl-falls, ends-journey, goes-on}
+use Rattle.forward.proofs.travel.Statement.{statement}
+use Rattle.forward.proofs.travel.Tie as tie
+use Rattle.forward.proofs.travel.Reads as reads
+use Rattle.forward.proofs.travel.Lts as lts
+use Rattle.forward.proofs.no_uids.Reads as no-uids-reads
+use Rattle.forward.proofs.step_at.Reads as step-at-reads
+use Rattle.ports.proofs.part_of.Reads as part-of-reads
+
+abbrev Inv-loop : tie.InvT-loop
+Inv-loop h table source uids₀ me₀ p₀ reroutes₀ at₀ uids me p reroutes at = Underway h table source p₀ uids me p reroutes at
+
+abbrev μ-loop : tie.MeasureT-loop
+μ-loop h table source uids₀ me₀ p₀ reroutes₀ at₀ uids me p reroutes at = p .ttl
+
+no-uids-requires : tie.Need-no-uids-requires Inv-loop μ-loop
+no-uids-requires c κs = search needs
+
+loop-holds : tie.Need-loop-holds Inv-loop μ-loop
+loop-holds c = let a = c .before .before in sets-off (a .args .h) (a .args .table .now) (a .args .source) (a .args .packet) _ (c .no-uids .ensures) (search needs) (a .pre)
+
+mul-uids : tie.Need-mul-uids Inv-loop μ-loop
+mul-uids c = let l = c .loop .inv .left in omega arith
+
+array-write-uids : tie.Need-array-write-uids Inv-loop μ-loop
+array-write-uids c = let l = c .loop .inv .left in omega arith
+
+part-of-requires : tie.Need-part-of-requires Inv-loop μ-loop
+part-of-requires c κs = search needs
+
+step-at-requires : tie.Need-step-at-requires Inv-loop μ-loop
+step-at-requires c κs = part-here _ _ _ _ (c .before .loop .inv .departing) _ (c .part-of .ensures)
+
+add-reroutes : tie.Need-add-reroutes Inv-loop μ-loop
+add-reroutes c =
+    let w = c .before .before .before .loop in
+    let a = c .before .before .before .before .before .before .args in
+    let d = w .inv .departing in
+    let q = step-is (a .h) (a .table .now) (w .me) (w .p) d _ (c .before .before .part-of .ensures) (c .before .step-at .result) (c .before .step-at .ensures) in
+    let f = step-few (a .h) (a .table .now) (w .me) (w .p) d (c .before .step-at .result) q in
+    let l = w .inv .left in
+    let r = w .inv .few in
+    omega arith
+
+cast-t18 : tie.Need-cast-t18 Inv-loop μ-loop
+cast-t18 c = let l = c .before .before .before .before .before .loop .inv .left in omega arith
+
+returns : tie.Need-returns Inv-loop μ-loop
+returns c =
+    let w = c .before .before .before .before .before .loop in
+    let a = c .before .before .before .before .before .before .before .before .args in
+    let d = w .inv .departing in
+    let q = step-is (a .h) (a .table .now) (w .me) (w .p) d _ (c .before .before .before .before .part-of .ensures) (c .before .before .before .step-at .result) (c .before .before .before .step-at .ensures) in
+    ends-journey (a .h) (a .table .now) (a .source) (a .packet) (w .uids) (w .me) (w .p) (w .reroutes) (w .at) (w .inv) (c .before .before .before .step-at .result) q (c .if1 .taken)
+
+add-at : tie.Need-add-at Inv-loop μ-loop
+add-at c = let l = c .before .before .before .before .before .before .loop .inv .left in omega arith
+
+loop-less : tie.Need-loop-less Inv-loop μ-loop
+loop-less c =
+    let w = c .before .before .before .before .before .before .loop in
+    let a = c .before .before .before .before .before .before .before .before .before .args in
+    let d = w .inv .departing in
+    let q = step-is (a .h) (a .table .now) (w .me) (w .p) d _ (c .before .before .before .before .before .part-of .ensures) (c .before .before .before .before .step-at .result) (c .before .before .before .before .step-at .ensures) in
+    let f = ttl-falls (a .h) (a .table .now) (w .me) (w .p) d (c .before .before .before .before .step-at .result) q (c .before .if1 .left) in
+    omega arith
+
+loop-again : tie.Need-loop-again Inv-loop μ-loop
+loop-again c =
+    let w = c .before .before .before .before .before .before .loop in
+    let a = c .before .before .before .before .before .before .before .before .before .args in
+    let d = w .inv .departing in
+    let q = step-is (a .h) (a .table .now) (w .me) (w .p) d _ (c .before .before .before .before .before .part-of .ensures) (c .before .before .before .before .step-at .result) (c .before .before .before .before .step-at .ensures) in
+    goes-on (a .h) (a .table .now) (a .source) (a .packet) (w .uids) (w .me) (w .p) (w .reroutes) (w .at) (w .inv) (c .before .before .before .before .step-at .result) q (c .before .if1 .left)
+
+pub travel-spec : {M : Type 1} → statement M
+travel-spec =
+    tie.close
+    (tie.spec
+    Inv-loop
+    μ-loop
+    no-uids-requires
+    loop-holds
+    mul-uids
+    array-write-uids
+    part-of-requires
+    step-at-requires
+    add-reroutes
+    cast-t18
+    returns
+    add-at
+    loop-less
+    loop-again)

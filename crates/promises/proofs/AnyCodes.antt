@@ -1,0 +1,91 @@
+-- With any codes: each step that forwards hops over a usable link to a server of the hall, with a packet of the hall, so each hop of a
+-- journey does; and the last step says what the ending means.
+use mathlib.Core.Path.{_≡_, refl, sym, _∙_, ap}
+use mathlib.Core.Bool.{Bool, true, false}
+use mathlib.Core.List.{List}
+use Prim.Native.Nat.{ℕ, suc, _+_, _-_, _*_, _≤_, _<_}
+use native.Mathlib.Omega.{arith}
+use Rattle.combine.proofs.Tests.{never}
+use Rattle.hall.specs.declared.Hall.{Hall}
+use Rattle.hall.specs.Halls.{valid, servers}
+use Rattle.hall.proofs.Growth.{Valid, valid-known}
+use Rattle.ports.specs.Codes.{up, part}
+use Rattle.ports.specs.Links.{joined}
+use Rattle.ports.proofs.Runs.{part-up}
+use Rattle.local.proofs.Uids.{linked-hall}
+use Rattle.local.specs.Local.{cellSize, placeOf, firstOf, linked}
+use Rattle.forward.specs.declared.Packet.{Packet}
+use Rattle.forward.specs.declared.Step.{Step}
+use Rattle.forward.specs.Packets.{forwarded, cleared, tidied}
+use Rattle.forward.specs.Seen.{usable, seen}
+use Rattle.forward.specs.Journeys.{Trip, stepAt, trip}
+use Rattle.forward.proofs.Passes.{pick-ways}
+use Rattle.forward.proofs.Steps.{delivered-there, drop-ttl-there, drop-route-means, drop-retry-means, drop-proxy-means}
+use Rattle.forward.proofs.Trips.{Final, final-delivered, final-drop-ttl, final-drop-route, final-drop-retry, final-drop-proxy, tidied-dst, tidied-ttl, Travels, trip-travels, links-within, reroutes-within, trip-ending, trip-last, each-hop}
+use Rattle.forward.proofs.Links.{n-pos}
+use Rattle.forward.proofs.Hops.{Fits, Hop, inside, over, step-forwards}
+use Rattle.forward.proofs.Sight.{seen-links}
+use Rattle.promises.specs.Journeys.{Sound, Usable, up-to-b, above-b}
+use Rattle.promises.specs.AnyCodes.{Means, means-delivered, means-ttl, means-route, means-retry, means-proxy, EndedAt, Kept, AnyCodes}
+
+tidied-fits : (h : Hall) (p : Packet) → Fits h p → Fits h (tidied p)
+tidied-fits h p f =
+    pick-ways (Fits h) (p .«has_proxy») p (cleared p) (λ e. f) (λ e. record { dst-in = f .dst-in; proxy-in = λ q. never q refl })
+
+module _ (h : Hall) (table : List ℕ) (is-valid : valid h ≡ true) where
+  known : Valid h
+  known = valid-known h is-valid
+
+  port-there : (me i : ℕ) → i ≤ h .k → usable h (part h table me) i (placeOf h me) ≡ true → up h table me i ≡ true
+  unfolding usable placeOf cellSize
+  port-there me i l e = sym (part-up h table (h .b) me i (n-pos h known) l) ∙ e
+
+  hop-usable : (me next : ℕ) → Hop h (seen h (part h table me)) (λ x z. linked h (part h table me) x z ≡ true) me next → Usable h table me next
+  hop-usable me next (inside place l e j) = up-to-b (rw e (sym (linked-hall h table me place known l) ∙ j))
+  hop-usable me next (over j low high e u) = above-b j low high e (port-there me (suc j) high u)
+
+  -- a server of the hall with a packet of the hall
+  abbrev Stands : ℕ → Packet → Type 0
+  Stands me p = (me < servers h) × Fits h p
+
+  stands-on : (me : ℕ) (p : Packet) → Stands me p → stepAt h table me p .ending ≡ forwarded → Stands (stepAt h table me p .next) (stepAt h table me p .packet)
+  stands-on me p k e =
+      let f = step-forwards h (seen h (part h table me)) (λ x z. linked h (part h table me) x z ≡ true) (seen-links h (part h table me) known) is-valid
+          me (tidied p) (k .0) (tidied-fits h p (k .1)) e in
+      (f .inside-hall, f .packet-fits)
+
+  hops-usable : (me : ℕ) (p : Packet) → Stands me p → stepAt h table me p .ending ≡ forwarded → Usable h table me (stepAt h table me p .next)
+  hops-usable me p k e =
+      let f = step-forwards h (seen h (part h table me)) (λ x z. linked h (part h table me) x z ≡ true) (seen-links h (part h table me) known) is-valid
+          me (tidied p) (k .0) (tidied-fits h p (k .1)) e in
+      hop-usable me (stepAt h table me p .next) (f .hop)
+
+-- what the ending of a step means
+means : (h : Hall) (table : List ℕ) (at : ℕ) (p : Packet) {e : ℕ} → Final e → stepAt h table at p .ending ≡ e → Means h table at p e
+means h table at p final-delivered q = means-delivered (delivered-there h (seen h (part h table at)) at (tidied p) q ∙ tidied-dst p)
+means h table at p final-drop-ttl q =
+    let w = drop-ttl-there h (seen h (part h table at)) at (tidied p) q in
+    means-ttl (λ e. w .0 (e ∙ sym (tidied-dst p))) (sym (tidied-ttl p) ∙ w .1)
+means h table at p final-drop-route q = means-route (drop-route-means h (seen h (part h table at)) at (tidied p) q)
+means h table at p final-drop-retry q = means-retry (drop-retry-means h (seen h (part h table at)) at (tidied p) q)
+means h table at p final-drop-proxy q = means-proxy (drop-proxy-means h (seen h (part h table at)) at (tidied p) q)
+
+pub any-codes : AnyCodes
+any-codes h table source p s =
+    let w = trip-travels h table source p in
+    let l = trip-last h table w in
+    record {
+      ended-at = record {
+        at = l .at;
+        packet = l .came;
+        is-last = l .is-last;
+        same-dst = l .same-dst;
+        aged = l .aged;
+        means = means h table (l .at) (l .came) (trip-ending h table w) (l .ends-it);
+      };
+      links-usable =
+          each-hop h table (Stands h table (s .hall-valid)) (Usable h table) (stands-on h table (s .hall-valid)) (hops-usable h table (s .hall-valid))
+          w (s .source-in, record { dst-in = s .dst-in; proxy-in = s .proxy-in });
+      links-few = links-within h table w;
+      reroutes-few = reroutes-within h table w;
+    }

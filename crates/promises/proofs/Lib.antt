@@ -1,0 +1,6 @@
+-- The theorems, and the lemmas that carry them.
+pub mod AnyCodes
+pub mod Counts
+pub mod OneCode
+pub mod Passing
+pub mod EveryUp

@@ -1,0 +1,50 @@
+-- Demand 3 with any codes: how a journey ends and what that means, which links it crosses, and how many.
+-- Sections "One forwarding step" and "What the promises settle".
+use mathlib.Core.Path.{_≡_}
+use mathlib.Core.List.{List}
+use Prim.Native.Nat.{ℕ, _+_, _-_, _≤_}
+use Rattle.hall.specs.declared.Hall.{Hall}
+use Rattle.ports.specs.Codes.{part}
+use Rattle.route.specs.Routes.{hops}
+use Rattle.route.specs.Walks.{Each}
+use Rattle.forward.specs.declared.Packet.{Packet}
+use Rattle.forward.specs.Packets.{drop-ttl, drop-route, drop-retry, drop-proxy, delivered, tidied}
+use Rattle.forward.specs.Seen.{seen}
+use Rattle.forward.specs.Journeys.{Trip, stepAt, trip}
+use Rattle.forward.proofs.Steps.{NoRoute, Spent, NoProxy}
+use Rattle.forward.proofs.Trips.{Last}
+use Rattle.promises.specs.Journeys.{Sound, Usable}
+
+-- what the ending of a step at a server says, for the packet as it came there
+pub data Means (h : Hall) (table : List ℕ) (at : ℕ) (p : Packet) : ℕ → Type 0 where
+  -- it is at its destination
+  means-delivered : at ≡ p .dst → Means h table at p delivered
+  -- its TTL is 0, and it is not at its destination
+  means-ttl : (at ≡ p .dst → ⊥) → p .ttl ≡ 0 → Means h table at p drop-ttl
+  -- dst is in the own cell, and the local target out of reach
+  means-route : NoRoute h (seen h (part h table at)) at (tidied p) (stepAt h table at p) → Means h table at p drop-route
+  -- the retry is spent
+  means-retry : Spent h (seen h (part h table at)) at (tidied p) (stepAt h table at p) → Means h table at p drop-retry
+  -- no server of the own cell is a candidate at any level from the first on
+  means-proxy : NoProxy h (seen h (part h table at)) at (tidied p) (stepAt h table at p) → Means h table at p drop-proxy
+
+-- where a journey ended, with which packet there, and what its ending says
+pub record EndedAt (h : Hall) (table : List ℕ) (p : Packet) (j : Trip) : Type 0 where
+  pub at : ℕ
+  pub packet : Packet
+  pub is-last : Last at (j .uids)
+  pub same-dst : packet .dst ≡ p .dst
+  pub aged : packet .ttl + j .links ≡ p .ttl
+  pub means : Means h table at packet (j .ending)
+
+-- delivery or one of the four drops, each meaning what its name says; usable links only; links at most the TTL; reroutes fewer than the
+-- retry, and none where it is 0
+pub record Kept (h : Hall) (table : List ℕ) (source : ℕ) (p : Packet) : Type 0 where
+  pub ended-at : EndedAt h table p (trip h table source p)
+  pub links-usable : Each (λ e. Usable h table (e .0) (e .1)) (hops (trip h table source p .uids))
+  pub links-few : trip h table source p .links ≤ p .ttl
+  pub reroutes-few : trip h table source p .reroutes ≤ p .retry - 1
+
+-- for every valid hall, every hall table of the right length, and every packet with any proxy of the hall
+abbrev pub AnyCodes : Type 0
+AnyCodes = (h : Hall) (table : List ℕ) (source : ℕ) (p : Packet) → Sound h table source p → Kept h table source p

@@ -1,0 +1,6 @@
+-- What is promised, statement by statement.
+pub mod Journeys
+pub mod AnyCodes
+pub mod Counts
+pub mod OneCode
+pub mod EveryUp

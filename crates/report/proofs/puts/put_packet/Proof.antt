@@ -1,0 +1,203 @@
+-- `report::puts::put_packet` meets its contract: each part stands behind the one before it, and none is longer than its bound.
+use mathlib.Core.Path.{_≡_, _∙_}
+use mathlib.Core.List.{_++_}
+use Prim.Native.Nat.{_≤_}
+use native.Mathlib.Omega.{arith}
+use lib.ListN.{length, length-set}
+use Rattle.report.specs.Texts.{space, colon, numberWith, endingText, packetHead}
+use Rattle.report.proofs.Rooms.{put-next, byte-next}
+use Rattle.report.proofs.Texts.{with-fits, ending-fits}
+use Rattle.report.proofs.puts.put_packet.Statement.{statement}
+use Rattle.report.proofs.puts.put_packet.Tie as tie
+
+-- how long each part can be
+source-bound : (s : tie.Start) → length (numberWith space (s .args .p .source)) ≤ 11
+source-bound s = with-fits space (s .args .p .source) (omega arith)
+
+dst-bound : (s : tie.Start) → length (numberWith space (s .args .p .dst)) ≤ 11
+dst-bound s = with-fits space (s .args .p .dst) (omega arith)
+
+ending-bound : (s : tie.Start) → length (endingText (s .args .p .ending)) ≤ 15
+ending-bound s = ending-fits (s .args .p .ending) (omega arith)
+
+links-bound : (s : tie.Start) → length (numberWith space (s .args .p .links)) ≤ 11
+links-bound s = with-fits space (s .args .p .links) (omega arith)
+
+reroutes-bound : (s : tie.Start) → length (numberWith space (s .args .p .reroutes)) ≤ 11
+reroutes-bound s = with-fits space (s .args .p .reroutes) (omega arith)
+
+put-with-requires : tie.Need-put-with-requires
+put-with-requires c κs =
+    omega arith
+
+put-with-requires-2 : tie.Need-put-with-requires-2
+put-with-requires-2 c κs =
+    let s = c .before .before .before .before .before .before in
+    let w0 = c .before .before .before .put-with in
+    omega (arith, s .pre, w0 .ensures .0, w0 .kept .0, source-bound s)
+
+put-ending-requires : tie.Need-put-ending-requires
+put-ending-requires c κs =
+    let s = c .before .before .before .before .before .before .before .before .before .before in
+    let w0 = c .before .before .before .before .before .before .before .put-with in
+    let w1 = c .before .before .before .put-with2 in
+    omega (
+      arith,
+      s .pre,
+      w0 .ensures .0,
+      w0 .kept .0,
+      source-bound s,
+      w1 .ensures .0,
+      w1 .kept .0,
+      dst-bound s,
+    )
+
+put-with-requires-3 : tie.Need-put-with-requires-3
+put-with-requires-3 c κs =
+    let s = c .before .before .before .before .before .before .before .before .before .before .before .before .before .before in
+    let w0 = c .before .before .before .before .before .before .before .before .before .before .before .put-with in
+    let w1 = c .before .before .before .before .before .before .before .put-with2 in
+    let w2 = c .before .before .before .put-ending in
+    omega (
+      arith,
+      s .pre,
+      w0 .ensures .0,
+      w0 .kept .0,
+      source-bound s,
+      w1 .ensures .0,
+      w1 .kept .0,
+      dst-bound s,
+      w2 .ensures .0,
+      w2 .kept .0,
+      ending-bound s,
+    )
+
+put-with-requires-4 : tie.Need-put-with-requires-4
+put-with-requires-4 c κs =
+    let s = c .before .before .before .before .before .before .before .before .before .before .before .before .before .before .before .before .before .before in
+    let w0 = c .before .before .before .before .before .before .before .before .before .before .before .before .before .before .before .put-with in
+    let w1 = c .before .before .before .before .before .before .before .before .before .before .before .put-with2 in
+    let w2 = c .before .before .before .before .before .before .before .put-ending in
+    let w3 = c .before .before .before .put-with3 in
+    omega (
+      arith,
+      s .pre,
+      w0 .ensures .0,
+      w0 .kept .0,
+      source-bound s,
+      w1 .ensures .0,
+      w1 .kept .0,
+      dst-bound s,
+      w2 .ensures .0,
+      w2 .kept .0,
+      ending-bound s,
+      w3 .ensures .0,
+      w3 .kept .0,
+      links-bound s,
+    )
+
+slice-write-room : tie.Need-slice-write-room
+slice-write-room c =
+    let s = c .before .before .before .before .before .before .before .before .before .before .before .before .before .before .before .before .before .before .before .before .before in
+    let w0 = c .before .before .before .before .before .before .before .before .before .before .before .before .before .before .before .before .before .before .put-with in
+    let w1 = c .before .before .before .before .before .before .before .before .before .before .before .before .before .before .put-with2 in
+    let w2 = c .before .before .before .before .before .before .before .before .before .before .put-ending in
+    let w3 = c .before .before .before .before .before .before .put-with3 in
+    let w4 = c .before .before .put-with4 in
+    omega (
+      arith,
+      s .pre,
+      w0 .ensures .0,
+      w0 .kept .0,
+      source-bound s,
+      w1 .ensures .0,
+      w1 .kept .0,
+      dst-bound s,
+      w2 .ensures .0,
+      w2 .kept .0,
+      ending-bound s,
+      w3 .ensures .0,
+      w3 .kept .0,
+      links-bound s,
+      w4 .ensures .0,
+      w4 .kept .0,
+      reroutes-bound s,
+    )
+
+add-result : tie.Need-add-result
+add-result c =
+    let s = c .before .before .before .before .before .before .before .before .before .before .before .before .before .before .before .before .before .before .before .before .before in
+    let w0 = c .before .before .before .before .before .before .before .before .before .before .before .before .before .before .before .before .before .before .put-with in
+    let w1 = c .before .before .before .before .before .before .before .before .before .before .before .before .before .before .put-with2 in
+    let w2 = c .before .before .before .before .before .before .before .before .before .before .put-ending in
+    let w3 = c .before .before .before .before .before .before .put-with3 in
+    let w4 = c .before .before .put-with4 in
+    omega (
+      arith,
+      s .pre,
+      w0 .ensures .0,
+      w0 .kept .0,
+      source-bound s,
+      w1 .ensures .0,
+      w1 .kept .0,
+      dst-bound s,
+      w2 .ensures .0,
+      w2 .kept .0,
+      ending-bound s,
+      w3 .ensures .0,
+      w3 .kept .0,
+      links-bound s,
+      w4 .ensures .0,
+      w4 .kept .0,
+      reroutes-bound s,
+    )
+
+same-length : tie.Need-same-length
+same-length c =
+    let w0 = c .before .before .before .before .before .before .before .before .before .before .before .before .before .before .before .before .before .before .put-with in
+    let w1 = c .before .before .before .before .before .before .before .before .before .before .before .before .before .before .put-with2 in
+    let w2 = c .before .before .before .before .before .before .before .before .before .before .put-ending in
+    let w3 = c .before .before .before .before .before .before .put-with3 in
+    let w4 = c .before .before .put-with4 in
+    length-set (w4 .last .0) (w4 .result) _ ∙ w4 .kept .0 ∙ w3 .kept .0 ∙ w2 .kept .0 ∙ w1 .kept .0 ∙ w0 .kept .0
+
+returns : tie.Need-returns
+unfolding packetHead
+returns c =
+    let s = c .before .before .before .before .before .before .before .before .before .before .before .before .before .before .before .before .before .before .before .before .before in
+    let a = s .args in
+    let l = s .pre in
+    let w0 = c .before .before .before .before .before .before .before .before .before .before .before .before .before .before .before .before .before .before .put-with in
+    let w1 = c .before .before .before .before .before .before .before .before .before .before .before .before .before .before .put-with2 in
+    let w2 = c .before .before .before .before .before .before .before .before .before .before .put-ending in
+    let w3 = c .before .before .before .before .before .before .put-with3 in
+    let w4 = c .before .before .put-with4 in
+    let b0 = source-bound s in
+    let b1 = dst-bound s in
+    let b2 = ending-bound s in
+    let b3 = links-bound s in
+    let b4 = reroutes-bound s in
+    let t1 = put-next (a .room .now) (a .at) (numberWith space (a .p .source)) (numberWith space (a .p .dst))
+    (w0 .result) (w1 .result) (w0 .last .0) (w1 .last .0) (w0 .ensures) (w1 .ensures) (omega (arith, w0 .ensures .0)) in
+    let t2 = put-next (a .room .now) (a .at) (numberWith space (a .p .source) ++ numberWith space (a .p .dst)) (endingText (a .p .ending))
+    (w1 .result) (w2 .result) (w1 .last .0) (w2 .last .0) (t1) (w2 .ensures) (omega (arith, w0 .ensures .0, w1 .ensures .0, t1 .0)) in
+    let t3 = put-next (a .room .now) (a .at) (numberWith space (a .p .source) ++ numberWith space (a .p .dst) ++ endingText (a .p .ending)) (numberWith space (a .p .links))
+    (w2 .result) (w3 .result) (w2 .last .0) (w3 .last .0) (t2) (w3 .ensures) (omega (arith, w0 .ensures .0, w1 .ensures .0, w2 .ensures .0, t2 .0)) in
+    let t4 = put-next (a .room .now) (a .at) (numberWith space (a .p .source) ++ numberWith space (a .p .dst) ++ endingText (a .p .ending) ++ numberWith space (a .p .links)) (numberWith space (a .p .reroutes))
+    (w3 .result) (w4 .result) (w3 .last .0) (w4 .last .0) (t3) (w4 .ensures) (omega (arith, w0 .ensures .0, w1 .ensures .0, w2 .ensures .0, w3 .ensures .0, t3 .0)) in
+    byte-next (a .room .now) (a .at) (numberWith space (a .p .source) ++ numberWith space (a .p .dst) ++ endingText (a .p .ending) ++ numberWith space (a .p .links) ++ numberWith space (a .p .reroutes))
+    (w4 .result) (w4 .last .0) colon t4 (omega (arith, w0 .ensures .0, w1 .ensures .0, w2 .ensures .0, w3 .ensures .0, w4 .ensures .0))
+
+pub put-packet-spec : {M : Type 1} → statement M
+put-packet-spec =
+    tie.close
+    (tie.spec
+    put-with-requires
+    put-with-requires-2
+    put-ending-requires
+    put-with-requires-3
+    put-with-requires-4
+    slice-write-room
+    add-result
+    same-length
+    returns)

@@ -1,0 +1,7 @@
+-- The laws.
+pub mod Reading
+pub mod Sheets
+pub mod Accepted
+pub mod Faults
+pub mod Held
+pub mod Encoding

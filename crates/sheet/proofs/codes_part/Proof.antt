@@ -1,0 +1,81 @@
+-- `sheet::codes_part` meets its contract: the part is there, as the count says, or it is empty.
+use mathlib.Core.Path.{_≡_, sym, _∙_, ap}
+use Prim.Native.Nat.{ℕ, _+_, _-_, _≤_, _<_}
+use native.Mathlib.Omega.{arith}
+use lib.ListN.{length, take, drop}
+use Rattle.sheet.specs.Formats.{value}
+use Rattle.sheet.proofs.Sheets.{codes-short, codes-there}
+use borrow.Author.Needs.{needs}
+use Rattle.sheet.proofs.codes_part.Statement.{statement}
+use Rattle.sheet.proofs.codes_part.Tie as tie
+
+sub-result : tie.Need-sub-result
+sub-result c = search needs
+
+part-result-start : tie.Need-part-result-start
+part-result-start c = search needs
+
+part-result-end : tie.Need-part-result-end
+part-result-end c = search needs
+
+returns : tie.Need-returns
+returns c =
+    codes-short (c .before .before .before .args .sheet .now) (omega arith)
+
+word-at-requires : tie.Need-word-at-requires
+word-at-requires c κs = search needs
+
+cast-count : tie.Need-cast-count
+cast-count c = search needs
+
+sub-result-2 : tie.Need-sub-result-2
+sub-result-2 c = search needs
+
+part-result-start-2 : tie.Need-part-result-start-2
+part-result-start-2 c = search needs
+
+part-result-end-2 : tie.Need-part-result-end-2
+part-result-end-2 c = search needs
+
+returns-2 : tie.Need-returns-2
+returns-2 c =
+    let w = c .before .before .word-at .ensures in
+    codes-short (c .before .before .before .before .before .args .sheet .now) (omega arith)
+
+add-end : tie.Need-add-end
+add-end c = search needs
+
+sub-result-3 : tie.Need-sub-result-3
+sub-result-3 c = search needs
+
+part-result-start-3 : tie.Need-part-result-start-3
+part-result-start-3 c = search needs
+
+part-result-end-3 : tie.Need-part-result-end-3
+part-result-end-3 c = search needs
+
+returns-3 : tie.Need-returns-3
+returns-3 c =
+    let w = c .before .before .word-at in
+    let d : 11 + w .result - 11 ≡ w .result = omega arith in
+    rw (d, w .ensures) (codes-there (c .before .before .before .before .before .args .sheet .now) (omega arith))
+
+pub codes-part-spec : {M : Type 1} → statement M
+codes-part-spec =
+    tie.close
+    (tie.spec
+    sub-result
+    part-result-start
+    part-result-end
+    returns
+    word-at-requires
+    cast-count
+    sub-result-2
+    part-result-start-2
+    part-result-end-2
+    returns-2
+    add-end
+    sub-result-3
+    part-result-start-3
+    part-result-end-3
+    returns-3)

@@ -1,0 +1,91 @@
+-- What each public call about a sheet answers.
+-- Sections "The night sheet" and "Refusal numbers".
+use mathlib.Core.Bool.{Bool, true, false}
+use mathlib.Core.List.{List, []}
+use Prim.Native.Nat.{ℕ, zero, suc, _+_, _*_}
+use lib.Dec.{eqb, leb, ltb}
+use lib.ListN.{length, take, drop}
+use Rattle.combine.specs.Tests.{pick}
+use Rattle.hall.specs.declared.Hall.{Hall}
+use Rattle.hall.specs.Refusals.{bad-range, bad-sheet}
+use Rattle.sheet.specs.declared.Field.{Field}
+use Rattle.sheet.specs.declared.Field.the-variants.{Value, Refused}
+use Rattle.sheet.specs.declared.Sheet.{Sheet}
+use Rattle.sheet.specs.declared.SheetPacket.{SheetPacket}
+use Rattle.sheet.specs.Formats.{value, read}
+use Rattle.sheet.specs.Sheets.{longest, nightSheet}
+
+-- the first bytes of n, k, b, the second count, and the hall table
+abbrev pub place-n : ℕ
+place-n = 4
+
+abbrev pub place-k : ℕ
+place-k = 5
+
+abbrev pub place-b : ℕ
+place-b = 6
+
+abbrev pub place-count : ℕ
+place-count = 7
+
+abbrev pub place-codes : ℕ
+place-codes = 11
+
+-- the hall that a sheet's bytes name
+abbrev pub hallOf : List ℕ → Hall
+hallOf s = record { n = value s place-n 1; k = value s place-k 1; b = value s place-b 1 }
+
+-- a refused sheet: number and place
+abbrev pub refusedAt : ℕ → ℕ → Sheet
+refusedAt number place = record { refusal = number; place = place; n = 0; k = 0; b = 0; packets = 0 }
+
+-- the number and values for each case of a field's read, at the end of the sheet: a surplus is told at its first byte
+abbrev pub told : List ℕ → Field → Sheet
+told s (Refused number place) = refusedAt number place
+told s (Value packetCount end) =
+    pick (ltb end (length s)) (refusedAt bad-sheet end)
+    (record { refusal = 0; place = 0; n = hallOf s .n; k = hallOf s .k; b = hallOf s .b; packets = packetCount })
+
+-- at most 65,536 bytes, else 10 at place 65,536
+unfoldable pub sheetOf : List ℕ → Sheet
+sheetOf s = pick (ltb longest (length s)) (refusedAt bad-sheet longest) (told s (read nightSheet s 0))
+
+-- as many bytes as the second count says, behind it; none where they are not there
+unfoldable pub codesPart : List ℕ → List ℕ
+codesPart s =
+    pick (leb (place-codes + value s place-count 4) (length s)) (take (value s place-count 4) (drop place-codes s)) []
+
+-- the sheet's codes
+abbrev pub codesOf : List ℕ → List ℕ
+codesOf s = pick (eqb (sheetOf s .refusal) 0) (codesPart s) []
+
+-- the first byte of packet i: 10 bytes each, behind the codes and the third count
+unfoldable pub packetPlace : List ℕ → ℕ → ℕ
+packetPlace s i = place-codes + value s place-count 4 + 4 + 10 * i
+
+abbrev pub packetRefused : ℕ → ℕ → SheetPacket
+packetRefused number place = record { refusal = number; place = place; source = 0; dst = 0; retry = 0; ttl = 0 }
+
+-- the ten bytes of a packet at a place; zeros where they are not there
+unfoldable pub packetPart : List ℕ → ℕ → SheetPacket
+packetPart s at =
+    pick (leb (at + 10) (length s))
+    (record {
+      refusal = 0;
+      place = 0;
+      source = value s at 4;
+      dst = value s (at + 4) 4;
+      retry = value s (at + 8) 1;
+      ttl = value s (at + 9) 1;
+    })
+    (packetRefused 0 0)
+
+abbrev pub packetFields : List ℕ → ℕ → SheetPacket
+packetFields s i = packetPart s (packetPlace s i)
+
+-- packet i of a sheet that is not refused
+abbrev pub packetAt : List ℕ → ℕ → SheetPacket
+packetAt s i =
+    pick (eqb (sheetOf s .refusal) 0)
+    (pick (ltb i (sheetOf s .packets)) (packetFields s i) (packetRefused bad-range 0))
+    (packetRefused (sheetOf s .refusal) (sheetOf s .place))

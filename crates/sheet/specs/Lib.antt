@@ -1,0 +1,7 @@
+-- What a night sheet is, field by field, and what each call about one answers.
+pub mod Formats
+pub mod Sheets
+pub mod Answers
+pub mod Faults
+pub mod Accepted
+pub mod Worked

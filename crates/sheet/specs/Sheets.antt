@@ -1,0 +1,70 @@
+-- The night sheet as a format: its fields in order, and what each of them has to be.
+-- Section "The night sheet".
+use mathlib.Core.Bool.{Bool, true, false}
+use mathlib.Core.List.{List}
+use Prim.Native.Nat.{ℕ, zero, suc, _+_, _*_}
+use lib.Dec.{eqb, leb, ltb}
+use Rattle.hall.specs.declared.Hall.{Hall}
+use Rattle.hall.specs.Halls.{nFits, kFits, bFits, servers}
+use Rattle.hall.specs.Refusals.{bad-hall, bad-uid, bad-length, bad-code, bad-header}
+use Rattle.ports.specs.Codes.{known, tableLength}
+use Rattle.sheet.specs.Formats.{Format, done, field, and-then}
+
+-- at most 65,536 bytes
+abbrev pub longest : ℕ
+longest = 65536
+
+-- a field of so many bytes, of any value
+abbrev pub any : ℕ → Format
+any width = field width (λ v. true) 0 done
+
+-- counts one and two must be 3 and t(k) × (k+1), else 4
+abbrev pub count : ℕ → Format
+count wanted = field 4 (λ v. eqb v wanted) bad-length done
+
+abbrev pub number-n : Format
+number-n = field 1 nFits bad-hall done
+
+abbrev pub number-k : ℕ → Format
+number-k n = field 1 (kFits n) bad-hall done
+
+abbrev pub number-b : ℕ → Format
+number-b k = field 1 (bFits k) bad-hall done
+
+abbrev pub code : Format
+code = field 1 known bad-code done
+
+abbrev pub uid : ℕ → Format
+uid limit = field 4 (λ v. ltb v limit) bad-uid done
+
+-- 0 to 15
+abbrev pub retry : Format
+retry = field 1 (λ v. leb v 15) bad-header done
+
+-- a format so many times
+unfoldable pub times : ℕ → Format → Format
+times zero f = done 0
+times (suc rest) f = and-then f (λ v. times rest f)
+
+-- the hall table
+abbrev pub codes : ℕ → Format
+codes bytes = times bytes code
+
+-- source 4, dst 4, retry 1, TTL 1
+unfoldable pub packet : ℕ → Format
+packet limit = and-then (uid limit) (λ source. and-then (uid limit) (λ dst. and-then retry (λ v. any 1)))
+
+abbrev pub packets : ℕ → ℕ → Format
+packets limit packetCount = times packetCount (packet limit)
+
+-- the sections behind the hall's: its table, and the packets, whose count it is read for
+unfoldable pub tablesOf : Hall → Format
+tablesOf h =
+    and-then (count (tableLength h)) (λ bytes. and-then (codes bytes) (λ v.
+    and-then (any 4) (λ packetCount. and-then (packets (servers h) packetCount) (λ v. done packetCount))))
+
+-- each section after a 4-byte big-endian count
+unfoldable pub nightSheet : Format
+nightSheet =
+    and-then (count 3) (λ v. and-then number-n (λ n. and-then (number-k n) (λ k. and-then (number-b k) (λ b.
+    tablesOf (record { n = n; k = k; b = b })))))

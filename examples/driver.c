@@ -1,0 +1,238 @@
+/* A driver's first steps: builds a frame, reads it back, asks for its route, and forwards it server by server until it ends.
+ *
+ * The hall is n = 4, k = 1, b = 0, with two ports down: port 1 of server 3 and port 1 of server 16. They are the ends of the link that the
+ * route from 0 to 19 crosses, so the frame goes round by a proxy. Valid C11 and C++17. */
+#include "tbexlum.h"
+
+#include <inttypes.h>
+#include <stdio.h>
+#include <stdlib.h>
+#include <string.h>
+
+/* The hall: n servers on a switch, top level k, local level b. */
+#define N 4u
+#define K 1u
+#define B 0u
+/* t(k) servers in the hall, t(b) in a local cell, k + 1 ports on a server. */
+#define SERVERS 20u
+#define CELL_SERVERS 4u
+#define PORTS (K + 1u)
+#define CELL_CODES (CELL_SERVERS * PORTS)
+
+/* The code of a port that is down. */
+#define PORT_DOWN 2u
+
+/* The longest payload that this driver carries, and the frame that holds it. */
+#define MOST_PAYLOAD 1500u
+#define MOST_FRAME (TBEXLUM_HEADER_WITH_PROXY_BYTES + MOST_PAYLOAD)
+
+/* The most servers that a packet passes: its TTL is a byte, and each link lowers it. */
+#define MOST_PASSED 256u
+
+/* A frame as it lies in the driver's memory. */
+struct frame {
+    uint8_t bytes[MOST_FRAME];
+    size_t length;
+};
+
+/* What a frame's header says. */
+struct header {
+    uint32_t bytes, protocol, payload_length, identification, retry, ttl, source, destination, has_proxy, proxy;
+};
+
+/* What a step answers. */
+struct step {
+    uint32_t ending, next, dst, has_proxy, proxy, retry, ttl, reroutes;
+};
+
+/* The word at an offset of an answer. */
+static uint32_t word_at(const uint8_t *room, size_t at)
+{
+    return (uint32_t)room[at] << 24 | (uint32_t)room[at + 1] << 16 | (uint32_t)room[at + 2] << 8 | (uint32_t)room[at + 3];
+}
+
+/* Ends the program where a call refused. */
+static void need(const char *call, uint32_t refusal)
+{
+    if (refusal != TBEXLUM_ANSWERED) {
+        printf("%s refused: %" PRIu32 "\n", call, refusal);
+        exit(EXIT_FAILURE);
+    }
+}
+
+/* Builds the frame that says these fields, with this payload behind its header. The payload must not lie in the frame. */
+static void build(struct frame *frame, const struct header *says, const uint8_t *payload)
+{
+    /* A header is 20 or 24 bytes long: the payload moves when a proxy is set or cleared. */
+    size_t start = says->has_proxy != 0 ? TBEXLUM_HEADER_WITH_PROXY_BYTES : TBEXLUM_HEADER_BYTES;
+    if (says->payload_length > MOST_PAYLOAD) {
+        printf("payload too long: %" PRIu32 "\n", says->payload_length);
+        exit(EXIT_FAILURE);
+    }
+    need("tbexlum_write_header",
+         tbexlum_write_header((uint8_t)says->protocol, (uint16_t)says->payload_length, says->identification, (uint8_t)says->retry,
+                              (uint8_t)says->ttl, says->source, says->destination, says->has_proxy, says->proxy, frame->bytes,
+                              sizeof frame->bytes));
+    memcpy(frame->bytes + start, payload, says->payload_length);
+    frame->length = start + says->payload_length;
+}
+
+/* Reads the header of a frame. */
+static struct header read_header(const struct frame *frame)
+{
+    uint8_t room[TBEXLUM_READ_ROOM];
+    struct header says;
+    need("tbexlum_read_header", tbexlum_read_header(frame->bytes, frame->length, room, sizeof room));
+    says.bytes = word_at(room, TBEXLUM_READ_HEADER_BYTES_AT);
+    says.protocol = word_at(room, TBEXLUM_READ_PROTOCOL_AT);
+    says.payload_length = word_at(room, TBEXLUM_READ_PAYLOAD_LENGTH_AT);
+    says.identification = word_at(room, TBEXLUM_READ_IDENTIFICATION_AT);
+    says.retry = word_at(room, TBEXLUM_READ_RETRY_AT);
+    says.ttl = word_at(room, TBEXLUM_READ_TTL_AT);
+    says.source = word_at(room, TBEXLUM_READ_SOURCE_AT);
+    says.destination = word_at(room, TBEXLUM_READ_DESTINATION_AT);
+    says.has_proxy = word_at(room, TBEXLUM_READ_HAS_PROXY_AT);
+    says.proxy = word_at(room, TBEXLUM_READ_PROXY_AT);
+    return says;
+}
+
+/* Takes one step at a server, over the part of the hall table that holds the server's own cell. */
+static struct step take_step(uint32_t uid, const struct header *says, const uint8_t *hall_table)
+{
+    const uint8_t *part = hall_table + uid / CELL_SERVERS * CELL_CODES;
+    uint8_t room[TBEXLUM_STEP_ROOM];
+    struct step step;
+    need("tbexlum_step", tbexlum_step(N, K, B, uid, says->destination, says->has_proxy, says->proxy, (uint8_t)says->retry,
+                                      (uint8_t)says->ttl, part, CELL_CODES, room, sizeof room));
+    step.ending = word_at(room, TBEXLUM_STEP_ENDING_AT);
+    step.next = word_at(room, TBEXLUM_STEP_NEXT_AT);
+    step.dst = word_at(room, TBEXLUM_STEP_DST_AT);
+    step.has_proxy = word_at(room, TBEXLUM_STEP_HAS_PROXY_AT);
+    step.proxy = word_at(room, TBEXLUM_STEP_PROXY_AT);
+    step.retry = word_at(room, TBEXLUM_STEP_RETRY_AT);
+    step.ttl = word_at(room, TBEXLUM_STEP_TTL_AT);
+    step.reroutes = word_at(room, TBEXLUM_STEP_REROUTES_AT);
+    return step;
+}
+
+static void print_frame(const struct frame *frame)
+{
+    size_t i;
+    for (i = 0; i < frame->length; i++) {
+        printf("%s%02X", i != 0 && i % 2 == 0 ? " " : "", (unsigned)frame->bytes[i]);
+    }
+    printf("\n");
+}
+
+static void print_header(const struct header *says)
+{
+    printf("%" PRIu32 " bytes, protocol %" PRIu32 ", payload %" PRIu32 " bytes, identification %" PRIu32 ", retry %" PRIu32 ", TTL %" PRIu32
+           ", %" PRIu32 " to %" PRIu32 "\n",
+           says->bytes, says->protocol, says->payload_length, says->identification, says->retry, says->ttl, says->source,
+           says->destination);
+}
+
+/* Prints the route from x to y. Its last uid is y, and no uid stands in it twice. */
+static void print_route(uint32_t x, uint32_t y)
+{
+    uint8_t room[TBEXLUM_ROUTE_ROOM];
+    size_t at = TBEXLUM_ROUTE_UIDS_AT;
+    need("tbexlum_route", tbexlum_route(N, K, B, x, y, room, sizeof room));
+    printf("%" PRIu32, word_at(room, at));
+    while (word_at(room, at) != y) {
+        at += TBEXLUM_WORD;
+        printf(" %" PRIu32, word_at(room, at));
+    }
+    printf("\n");
+}
+
+static const char *name_of(uint32_t ending)
+{
+    switch (ending) {
+    case TBEXLUM_FORWARDED:
+        return "FORWARDED";
+    case TBEXLUM_DROP_TTL:
+        return "DROP1";
+    case TBEXLUM_DROP_ROUTE:
+        return "DROP2";
+    case TBEXLUM_DROP_RETRY:
+        return "DROP3";
+    case TBEXLUM_DROP_PROXY:
+        return "DROP4";
+    default:
+        return "DELIVERED";
+    }
+}
+
+/* Forwards a frame from its source until it ends: each server reads the frame that came and sends on the packet that its step answers.
+ * Prints each frame sent, then source, destination, ending, links, reroutes and the uids passed. */
+static void forward(const struct frame *first, const uint8_t *hall_table)
+{
+    static struct frame came;
+    static struct frame sent;
+    uint32_t passed[MOST_PASSED];
+    uint32_t links = 0;
+    uint32_t reroutes = 0;
+    uint32_t i;
+    struct header says = read_header(first);
+    struct step step;
+    came = *first;
+    passed[0] = says.source;
+    for (;;) {
+        says = read_header(&came);
+        step = take_step(passed[links], &says, hall_table);
+        reroutes += step.reroutes;
+        if (step.ending != TBEXLUM_FORWARDED) {
+            break;
+        }
+        says.destination = step.dst;
+        says.has_proxy = step.has_proxy;
+        says.proxy = step.proxy;
+        says.retry = step.retry;
+        says.ttl = step.ttl;
+        build(&sent, &says, came.bytes + says.bytes);
+        printf("at %" PRIu32 " to %" PRIu32 ": ", passed[links], step.next);
+        print_frame(&sent);
+        came = sent;
+        links++;
+        passed[links] = step.next;
+    }
+    printf("%" PRIu32 " %" PRIu32 " %s %" PRIu32 " %" PRIu32 " :", says.source, says.destination, name_of(step.ending), links, reroutes);
+    for (i = 0; i <= links; i++) {
+        printf(" %" PRIu32, passed[i]);
+    }
+    printf("\n");
+}
+
+int main(void)
+{
+    static const uint8_t payload[] = {'p', 'i', 'n', 'g'};
+    static struct frame frame;
+    uint8_t hall_table[SERVERS * PORTS];
+    struct header says;
+
+    /* Port i of server u is byte u * (k + 1) + i. */
+    memset(hall_table, TBEXLUM_PORT_UP, sizeof hall_table);
+    hall_table[3 * PORTS + 1] = PORT_DOWN;
+    hall_table[16 * PORTS + 1] = PORT_DOWN;
+
+    memset(&says, 0, sizeof says);
+    says.protocol = 6;
+    says.payload_length = sizeof payload;
+    says.identification = 1;
+    says.retry = 5;
+    says.ttl = 15;
+    says.source = 0;
+    says.destination = 19;
+
+    build(&frame, &says, payload);
+    printf("frame: ");
+    print_frame(&frame);
+    says = read_header(&frame);
+    printf("header: ");
+    print_header(&says);
+    printf("route: ");
+    print_route(says.source, says.destination);
+    forward(&frame, hall_table);
+    return EXIT_SUCCESS;
+}

@@ -1,0 +1,140 @@
+/* The driver's calls: frame header, route and forwarding step, on plain numbers and bytes.
+ *
+ * A call returns TBEXLUM_ANSWERED and writes its answer to the start of the lent room, or returns the number of a refusal and leaves the
+ * whole room as lent. Behind the answer the room is unchanged. Any number may be passed. A slice is a pointer and its length in bytes;
+ * NULL may be passed with length 0. A room must not overlap the frame or table of the same call.
+ *
+ * Answers of tbexlum_route, tbexlum_read_header and tbexlum_step are words: 32 bits, big-endian, at the offsets below. */
+#ifndef TBEXLUM_H
+#define TBEXLUM_H
+
+#include <stddef.h>
+#include <stdint.h>
+
+#ifdef __cplusplus
+extern "C" {
+#endif
+
+/* What a call returns. The numbers 3, 5 and 10 belong to calls that a driver is not offered; these four never return them. */
+
+/* Not refused: the answer stands in the room. */
+#define TBEXLUM_ANSWERED 0u
+/* n, k or b outside its range: n is 2 to 8, k is 0 to 3, b is 0 to the smaller of 1 and k. */
+#define TBEXLUM_REFUSED_BAD_HALL 1u
+/* A uid that is not below t(k), the servers of the hall. */
+#define TBEXLUM_REFUSED_BAD_UID 2u
+/* A table that is not t(b) * (k + 1) bytes long. */
+#define TBEXLUM_REFUSED_BAD_LENGTH 4u
+/* A room shorter than the answer. */
+#define TBEXLUM_REFUSED_SHORT_ROOM 6u
+/* A frame shorter than 20 bytes, than its DHL says, or than its payload length says. */
+#define TBEXLUM_REFUSED_SHORT_FRAME 7u
+/* Version, DHL, flags or PF outside the rule, or a retry above TBEXLUM_MOST_RETRY. */
+#define TBEXLUM_REFUSED_BAD_HEADER 8u
+/* A checksum that is not the one worked out. */
+#define TBEXLUM_REFUSED_BAD_CHECKSUM 9u
+/* An address of the wrong kind, or a broadcast with a proxy. */
+#define TBEXLUM_REFUSED_BAD_ADDRESS 11u
+
+/* How a step ends: the word at TBEXLUM_STEP_ENDING_AT. */
+
+/* The packet goes on to another server. */
+#define TBEXLUM_FORWARDED 0u
+/* Drop 1: the TTL is 0. */
+#define TBEXLUM_DROP_TTL 1u
+/* Drop 2: no route inside the local cell. */
+#define TBEXLUM_DROP_ROUTE 2u
+/* Drop 3: the retry is spent. */
+#define TBEXLUM_DROP_RETRY 3u
+/* Drop 4: no proxy is to be had. */
+#define TBEXLUM_DROP_PROXY 4u
+/* The packet is at its destination. */
+#define TBEXLUM_DELIVERED 5u
+
+/* Limits. */
+
+/* The bytes of a word. */
+#define TBEXLUM_WORD 4u
+/* The one port code that counts as up; every other byte counts as not usable. */
+#define TBEXLUM_PORT_UP 1u
+/* The greatest retry of a packet. */
+#define TBEXLUM_MOST_RETRY 15u
+/* The uids of the longest route. */
+#define TBEXLUM_MOST_UIDS 16u
+/* The bytes of a frame's header without a proxy. */
+#define TBEXLUM_HEADER_BYTES 20u
+/* The bytes of a frame's header with a proxy. */
+#define TBEXLUM_HEADER_WITH_PROXY_BYTES 24u
+
+/* The answer of tbexlum_route: the uids in order, a word each, the last of them y. */
+
+/* Where the first uid stands. */
+#define TBEXLUM_ROUTE_UIDS_AT 0u
+/* A room that every route fits in; a shorter route needs its own uids * TBEXLUM_WORD. */
+#define TBEXLUM_ROUTE_ROOM 64u
+
+/* The answer of tbexlum_read_header. */
+
+/* The bytes of the header, 20 or 24; the payload starts there. */
+#define TBEXLUM_READ_HEADER_BYTES_AT 0u
+#define TBEXLUM_READ_PROTOCOL_AT 4u
+/* The bytes of the payload; what is behind it is padding. */
+#define TBEXLUM_READ_PAYLOAD_LENGTH_AT 8u
+#define TBEXLUM_READ_IDENTIFICATION_AT 12u
+#define TBEXLUM_READ_RETRY_AT 16u
+#define TBEXLUM_READ_TTL_AT 20u
+#define TBEXLUM_READ_SOURCE_AT 24u
+#define TBEXLUM_READ_DESTINATION_AT 28u
+/* 1 where there is a proxy, else 0. */
+#define TBEXLUM_READ_HAS_PROXY_AT 32u
+/* The proxy, 0 where there is none. */
+#define TBEXLUM_READ_PROXY_AT 36u
+/* The bytes of the answer. */
+#define TBEXLUM_READ_ROOM 40u
+
+/* The answer of tbexlum_step. */
+
+/* The ending. */
+#define TBEXLUM_STEP_ENDING_AT 0u
+/* The uid to send to; 0 unless the packet is forwarded. */
+#define TBEXLUM_STEP_NEXT_AT 4u
+/* The packet to send on; where the packet is delivered or dropped, the packet as it came. */
+#define TBEXLUM_STEP_DST_AT 8u
+/* 1 where it has a proxy, else 0. */
+#define TBEXLUM_STEP_HAS_PROXY_AT 12u
+/* Its proxy, 0 where it has none. */
+#define TBEXLUM_STEP_PROXY_AT 16u
+#define TBEXLUM_STEP_RETRY_AT 20u
+/* Its TTL, lowered by one where it is forwarded. */
+#define TBEXLUM_STEP_TTL_AT 24u
+/* The reroutes of this step: how often it set or cleared a proxy by one. */
+#define TBEXLUM_STEP_REROUTES_AT 28u
+/* The bytes of the answer. */
+#define TBEXLUM_STEP_ROOM 32u
+
+/* The route without failures from x to y in the hall n, k, b.
+ * Refusals in order: BAD_HALL, BAD_UID, SHORT_ROOM. */
+uint32_t tbexlum_route(uint32_t n, uint32_t k, uint32_t b, uint32_t x, uint32_t y, uint8_t *room, size_t room_length);
+
+/* The header of a frame, read and checked.
+ * Refusals in order: SHORT_FRAME (20 bytes), BAD_HEADER, SHORT_FRAME (DHL), BAD_CHECKSUM, BAD_ADDRESS, SHORT_FRAME (payload), SHORT_ROOM. */
+uint32_t tbexlum_read_header(const uint8_t *frame, size_t frame_length, uint8_t *room, size_t room_length);
+
+/* A header written to the start of the room, checksum included: 20 bytes where has_proxy is 0, else 24.
+ * Where has_proxy is 0, proxy is not looked at.
+ * Refusals in order: BAD_HEADER, BAD_ADDRESS, SHORT_ROOM. */
+uint32_t tbexlum_write_header(uint8_t protocol, uint16_t payload_length, uint32_t identification, uint8_t retry, uint8_t ttl,
+                              uint32_t source, uint32_t destination, uint32_t has_proxy, uint32_t proxy,
+                              uint8_t *room, size_t room_length);
+
+/* One forwarding step at the server uid, over the table of its own DCell(b): t(b) * (k + 1) port codes, port i of the cell's server j at
+ * byte j * (k + 1) + i. Where has_proxy is 0, proxy is not looked at.
+ * Refusals in order: BAD_HALL, BAD_LENGTH, BAD_UID (uid, dst, proxy), BAD_HEADER (retry), SHORT_ROOM. */
+uint32_t tbexlum_step(uint32_t n, uint32_t k, uint32_t b, uint32_t uid, uint32_t dst, uint32_t has_proxy, uint32_t proxy,
+                      uint8_t retry, uint8_t ttl, const uint8_t *table, size_t table_length, uint8_t *room, size_t room_length);
+
+#ifdef __cplusplus
+}
+#endif
+
+#endif

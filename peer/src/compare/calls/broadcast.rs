@@ -1,0 +1,181 @@
+//! The rounds of a broadcast.
+
+use peer::broadcast::{self, MOST_SCOPE};
+use peer::hall::Hall;
+use peer::random::Random;
+use peer::refusal::{HALL, LENGTH, NONE, ROOM, SCOPE, UID};
+
+use super::HALL_ROOM;
+use crate::compare::call::{Call, Case};
+use crate::compare::chains::Chain;
+use crate::compare::inputs::{any_hall, any_uid, around, edge_halls, servers, sizes};
+use crate::compare::room::{told, Room};
+use crate::compare::tables::{any_hall_table, sound_hall_table, Table};
+use crate::rattle;
+
+/// The values of the answer: the servers reached and the last round.
+const VALUES: usize = 2;
+/// The most servers of a broadcast.
+const MOST_SERVERS: usize = 5_256;
+/// The servers that a scope which is none is called as if it had.
+const SUPPOSED_SERVERS: usize = 20;
+/// One input in so many is a chain.
+const CHAIN: u32 = 64;
+/// The chains of each hall that every comparison tries.
+const CHAINS: usize = 2;
+/// The halls of the chains, n and k of each.
+const CHAIN_HALLS: [(u32, u32); 10] = [
+    (2, 2),
+    (2, 3),
+    (3, 2),
+    (3, 3),
+    (4, 2),
+    (5, 2),
+    (6, 2),
+    (7, 2),
+    (8, 2),
+    (4, 1),
+];
+/// The chains drawn at random are of so many of these halls, the first and least ones.
+const LIGHT_CHAINS: u32 = 6;
+
+/// The call `calls_broadcast`.
+pub struct Broadcast;
+
+/// A hall with its table, a source and a scope.
+#[derive(Debug)]
+pub struct Input {
+    hall: Hall,
+    table: Table,
+    source: u32,
+    scope: u32,
+}
+
+impl Call for Broadcast {
+    type Input = Input;
+    type Rooms = (Room<u16>, Room<u32>);
+
+    const NAME: &'static str = "broadcast";
+    const NUMBERS: &'static [u32] = &[NONE, HALL, UID, LENGTH, ROOM, SCOPE];
+    const INPUTS: u32 = 200_000;
+    const MEASURED: usize = 4;
+    const CASES: &'static [Case<Input>] = &[
+        case::<4, 1, 1, 0>("n 4, k 1, scope 1"),
+        case::<4, 2, 2, 0>("n 4, k 2, scope 2"),
+        case::<4, 3, 2, 5>("n 4, k 3, scope 2, 5% down"),
+        case::<8, 1, 1, 0>("n 8, k 1, scope 1"),
+        case::<8, 1, 1, 5>("n 8, k 1, scope 1, 5% down"),
+        case::<8, 2, 0, 0>("n 8, k 2, scope 0"),
+        case::<8, 2, 1, 5>("n 8, k 2, scope 1, 5% down"),
+        case::<8, 2, 2, 0>("n 8, k 2, scope 2"),
+        case::<8, 2, 2, 5>("n 8, k 2, scope 2, 5% down"),
+        case::<8, 3, 2, 0>("n 8, k 3, scope 2"),
+        case::<8, 3, 2, 5>("n 8, k 3, scope 2, 5% down"),
+    ];
+
+    fn any(random: &mut Random) -> Input {
+        if random.once_in(CHAIN) {
+            let (n, k) = CHAIN_HALLS[random.below(LIGHT_CHAINS) as usize];
+            return chain(random, n, k);
+        }
+        let hall = any_hall(random);
+        let scope = around(random, hall.k.min(MOST_SCOPE) + 1);
+        Input {
+            hall,
+            table: any_hall_table(random, hall),
+            source: any_uid(random, hall),
+            scope,
+        }
+    }
+
+    fn edges() -> impl Iterator<Item = Input> {
+        let mut random = Random::new(0);
+        let halls = edge_halls().filter(|h| h.b == 0 || h.k < 2);
+        let ends = halls.flat_map(move |hall| edge_inputs(&mut random, hall));
+        let mut random = Random::new(1);
+        let halls = CHAIN_HALLS.into_iter().flat_map(|hall| [hall; CHAINS]);
+        ends.chain(halls.map(move |(n, k)| chain(&mut random, n, k)))
+    }
+
+    fn rooms(input: &Input, random: &mut Random) -> Self::Rooms {
+        let needed = servers_of(input.hall, input.scope).unwrap_or(SUPPOSED_SERVERS);
+        let rounds = Room::any(random, needed, needed + needed / 8 + 2);
+        (rounds, Room::any(random, VALUES, HALL_ROOM))
+    }
+
+    fn ample_rooms() -> Self::Rooms {
+        (Room::new(MOST_SERVERS), Room::new(VALUES))
+    }
+
+    fn rattle(at: &Input, (rounds, room): &mut Self::Rooms) -> u32 {
+        let (rounds, room) = (rounds.lent(), room.lent());
+        rattle::broadcast(at.hall, &at.table, at.source, at.scope, rounds, room)
+    }
+
+    fn peer(at: &Input, (rounds, room): &mut Self::Rooms) -> u32 {
+        let answer = broadcast::broadcast(at.hall, at.source, at.scope, &at.table, rounds.lent());
+        told(answer.refusal, &[answer.reached, answer.last], room.lent())
+    }
+}
+
+/// The servers of a scope of a sound hall.
+fn servers_of(h: Hall, scope: u32) -> Option<usize> {
+    let in_hall = scope <= h.k.min(MOST_SCOPE);
+    let t = sizes(h).filter(|_| in_hall)?;
+    Some(t[scope as usize] as usize)
+}
+
+/// A hall in which one chain is up, with a source on the chain, mostly its first server.
+fn chain(random: &mut Random, n: u32, k: u32) -> Input {
+    let hall = Hall { n, k, b: 0 };
+    let scope = k.min(MOST_SCOPE);
+    let start = random.below(servers(hall).unwrap_or(1));
+    let chain = Chain::from(random, hall, scope, start);
+    let place = if random.once_in(4) {
+        random.below(chain.walk.len() as u32)
+    } else {
+        0
+    };
+    Input {
+        hall,
+        table: Table::Own(chain.codes),
+        source: chain.walk[place as usize],
+        scope,
+    }
+}
+
+/// Every scope of a hall and some that are none, with sources at its ends and past them.
+fn edge_inputs(random: &mut Random, hall: Hall) -> Vec<Input> {
+    let count = servers(hall).unwrap_or(1);
+    let sources = [0, count / 2, count - 1, count, u32::MAX];
+    let scopes = [0, 1, 2, 3, 4, u32::MAX];
+    let pairs = sources
+        .into_iter()
+        .flat_map(|source| scopes.map(|scope| (source, scope)));
+    let with_table = |(source, scope)| Input {
+        hall,
+        table: any_hall_table(random, hall),
+        source,
+        scope,
+    };
+    pairs.map(with_table).collect()
+}
+
+/// A line of the benchmark: sources of one hall, in one scope.
+const fn case<const N: u32, const K: u32, const SCOPE: u32, const DOWN: u32>(
+    name: &'static str,
+) -> Case<Input> {
+    Case {
+        name,
+        draw: |random| {
+            let hall = Hall { n: N, k: K, b: 0 };
+            let (table, source) = sound_hall_table(random, hall, DOWN);
+            Input {
+                hall,
+                table,
+                source,
+                scope: SCOPE,
+            }
+        },
+    }
+}

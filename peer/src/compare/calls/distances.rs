@@ -1,0 +1,152 @@
+//! The distances from a server to all of its DCell(b).
+
+use peer::hall::Hall;
+use peer::local::{self, CELL_ROOM};
+use peer::random::Random;
+use peer::refusal::{HALL, LENGTH, NONE, ROOM, UID};
+
+use crate::compare::call::{Call, Case};
+use crate::compare::inputs::{any_hall, any_uid, edge_halls, servers, sizes};
+use crate::compare::room::{told, Room};
+use crate::compare::tables::{any_codes, any_length, cell_codes, codes};
+use crate::rattle;
+
+/// The random searches of a short comparison of each call that searches a cell.
+pub const SEARCHES: u32 = 500_000;
+/// The inputs of each case of such a call.
+pub const MEASURED: usize = 128;
+/// So many tables are drawn for each uid at an edge.
+const TABLES: usize = 3;
+
+/// The call `calls_distances`.
+pub struct Distances;
+
+/// A server, a target in the hall, and the table of the server's cell.
+#[derive(Debug)]
+pub struct Local {
+    pub hall: Hall,
+    pub uid: u32,
+    pub target: u32,
+    pub codes: Vec<u8>,
+}
+
+/// The lines of the benchmark for a call that searches a cell.
+pub const LOCAL_CASES: &[Case<Local>] = &[
+    local_case::<4, 1, 0, 0>("n 4, k 1, b 0"),
+    local_case::<4, 1, 1, 0>("n 4, k 1, b 1"),
+    local_case::<4, 2, 1, 0>("n 4, k 2, b 1"),
+    local_case::<4, 3, 1, 0>("n 4, k 3, b 1"),
+    local_case::<4, 3, 1, 5>("n 4, k 3, b 1, 5% down"),
+    local_case::<8, 1, 0, 0>("n 8, k 1, b 0"),
+    local_case::<8, 3, 0, 5>("n 8, k 3, b 0, 5% down"),
+    local_case::<8, 1, 1, 0>("n 8, k 1, b 1"),
+    local_case::<8, 2, 1, 0>("n 8, k 2, b 1"),
+    local_case::<8, 2, 1, 5>("n 8, k 2, b 1, 5% down"),
+    local_case::<8, 3, 1, 0>("n 8, k 3, b 1"),
+    local_case::<8, 3, 1, 5>("n 8, k 3, b 1, 5% down"),
+];
+
+impl Call for Distances {
+    type Input = Local;
+    type Rooms = Room<u8>;
+
+    const NAME: &'static str = "distances";
+    const NUMBERS: &'static [u32] = &[NONE, HALL, LENGTH, UID, ROOM];
+    const INPUTS: u32 = SEARCHES;
+    const MEASURED: usize = MEASURED;
+    const CASES: &'static [Case<Local>] = LOCAL_CASES;
+
+    fn any(random: &mut Random) -> Local {
+        Local::any(random)
+    }
+
+    fn edges() -> impl Iterator<Item = Local> {
+        Local::edges()
+    }
+
+    fn rooms(_: &Local, random: &mut Random) -> Room<u8> {
+        Room::any(random, CELL_ROOM, CELL_ROOM + 2)
+    }
+
+    fn ample_rooms() -> Room<u8> {
+        Room::new(CELL_ROOM)
+    }
+
+    fn rattle(at: &Local, room: &mut Room<u8>) -> u32 {
+        rattle::distances(at.hall, at.uid, &at.codes, room.lent())
+    }
+
+    fn peer(at: &Local, room: &mut Room<u8>) -> u32 {
+        let answer = local::distances(at.hall, at.uid, &at.codes);
+        told(answer.refusal, &answer.distance, room.lent())
+    }
+}
+
+impl Local {
+    /// Any hall, server, target and table.
+    pub fn any(random: &mut Random) -> Local {
+        let hall = any_hall(random);
+        let uid = any_uid(random, hall);
+        let count = any_length(random, cell_codes(hall));
+        let codes = any_codes(random, count);
+        Local::with_target(random, hall, uid, codes)
+    }
+
+    /// The uids at the ends of every hall, of its first cell and past them, each with some tables.
+    pub fn edges() -> impl Iterator<Item = Local> {
+        let mut random = Random::new(0);
+        let places = edge_halls().flat_map(|hall| edge_uids(hall).map(|uid| (hall, uid)));
+        let places = places.flat_map(|place| [place; TABLES]);
+        places.map(move |(hall, uid)| {
+            let count = any_length(&mut random, cell_codes(hall));
+            let codes = any_codes(&mut random, count);
+            Local::with_target(&mut random, hall, uid, codes)
+        })
+    }
+
+    /// A target for a server: mostly in its own cell, else any.
+    fn with_target(random: &mut Random, hall: Hall, uid: u32, codes: Vec<u8>) -> Local {
+        let cell = sizes(hall).map(|t| t[hall.b as usize]);
+        let target = match cell {
+            Some(cell) if !random.once_in(4) => {
+                (uid / cell * cell).saturating_add(random.below(cell))
+            }
+            _ => any_uid(random, hall),
+        };
+        Local {
+            hall,
+            uid,
+            target,
+            codes,
+        }
+    }
+
+    /// A server and a target of one cell of a sound hall, with so many in a hundred codes not up.
+    fn sound(random: &mut Random, hall: Hall, not_up: u32) -> Local {
+        let cell = sizes(hall).map_or(1, |t| t[hall.b as usize]);
+        let uid = random.below(servers(hall).unwrap_or(1));
+        Local {
+            hall,
+            uid,
+            target: uid / cell * cell + random.below(cell),
+            codes: codes(random, cell_codes(hall), not_up),
+        }
+    }
+}
+
+/// The uids to try in a hall.
+fn edge_uids(h: Hall) -> [u32; 7] {
+    let count = servers(h).unwrap_or(1);
+    let cell = sizes(h).map_or(1, |t| t[h.b as usize]);
+    [0, cell - 1, cell, count / 2, count - 1, count, u32::MAX]
+}
+
+/// A line of the benchmark: servers and targets of one hall.
+const fn local_case<const N: u32, const K: u32, const B: u32, const DOWN: u32>(
+    name: &'static str,
+) -> Case<Local> {
+    Case {
+        name,
+        draw: |random| Local::sound(random, Hall { n: N, k: K, b: B }, DOWN),
+    }
+}

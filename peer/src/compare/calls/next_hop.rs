@@ -1,0 +1,53 @@
+//! The local next hop from a server towards a target.
+
+use peer::local;
+use peer::random::Random;
+use peer::refusal::{HALL, LENGTH, NONE, ROOM, UID};
+
+use super::distances::{Local, LOCAL_CASES, MEASURED, SEARCHES};
+use super::HALL_ROOM;
+use crate::compare::call::{Call, Case};
+use crate::compare::room::{told, Room};
+use crate::rattle;
+
+/// The values of the answer: whether one was found, and its uid.
+const VALUES: usize = 2;
+
+/// The call `calls_next_hop`.
+pub struct NextHop;
+
+impl Call for NextHop {
+    type Input = Local;
+    type Rooms = Room<u32>;
+
+    const NAME: &'static str = "next hop";
+    const NUMBERS: &'static [u32] = &[NONE, HALL, LENGTH, UID, ROOM];
+    const INPUTS: u32 = SEARCHES;
+    const MEASURED: usize = MEASURED;
+    const CASES: &'static [Case<Local>] = LOCAL_CASES;
+
+    fn any(random: &mut Random) -> Local {
+        Local::any(random)
+    }
+
+    fn edges() -> impl Iterator<Item = Local> {
+        Local::edges()
+    }
+
+    fn rooms(_: &Local, random: &mut Random) -> Room<u32> {
+        Room::any(random, VALUES, HALL_ROOM)
+    }
+
+    fn ample_rooms() -> Room<u32> {
+        Room::new(VALUES)
+    }
+
+    fn rattle(at: &Local, room: &mut Room<u32>) -> u32 {
+        rattle::next_hop(at.hall, at.uid, at.target, &at.codes, room.lent())
+    }
+
+    fn peer(at: &Local, room: &mut Room<u32>) -> u32 {
+        let answer = local::next_hop(at.hall, at.uid, at.target, &at.codes);
+        told(answer.refusal, &[answer.found, answer.uid], room.lent())
+    }
+}

@@ -1,0 +1,66 @@
+//! The payload of a frame.
+
+use peer::frame::payload;
+use peer::random::Random;
+use peer::refusal::{NONE, ROOM};
+
+use crate::compare::call::{Call, Case};
+use crate::compare::frames::{any_frame, edge_frames, frame, sound_fields};
+use crate::compare::room::{told, Room};
+use crate::rattle;
+
+/// The longest payload of the benchmark.
+const MEASURED_BYTES: usize = 1_500;
+
+/// The call `calls_payload`.
+pub struct Payload;
+
+impl Call for Payload {
+    type Input = Vec<u8>;
+    type Rooms = Room<u8>;
+
+    const NAME: &'static str = "payload";
+    const NUMBERS: &'static [u32] = &[NONE, ROOM];
+    const INPUTS: u32 = 300_000;
+    const CASES: &'static [Case<Vec<u8>>] = &[
+        case::<false, 0>("no byte"),
+        case::<true, 64>("64 bytes, proxy"),
+        case::<false, 1500>("1,500 bytes"),
+    ];
+
+    fn any(random: &mut Random) -> Vec<u8> {
+        any_frame(random)
+    }
+
+    fn edges() -> impl Iterator<Item = Vec<u8>> {
+        edge_frames()
+    }
+
+    fn rooms(frame: &Vec<u8>, random: &mut Random) -> Room<u8> {
+        let needed = payload(frame).len();
+        Room::any(random, needed, needed + 4)
+    }
+
+    fn ample_rooms() -> Room<u8> {
+        Room::new(MEASURED_BYTES)
+    }
+
+    fn rattle(frame: &Vec<u8>, room: &mut Room<u8>) -> u32 {
+        rattle::payload(frame, room.lent())
+    }
+
+    fn peer(frame: &Vec<u8>, room: &mut Room<u8>) -> u32 {
+        told(NONE, payload(frame), room.lent())
+    }
+}
+
+/// A line of the benchmark: sound frames with so long a payload.
+const fn case<const PROXY: bool, const BYTES: u16>(name: &'static str) -> Case<Vec<u8>> {
+    Case {
+        name,
+        draw: |random| {
+            let fields = sound_fields(random, PROXY, BYTES);
+            frame(random, &fields)
+        },
+    }
+}

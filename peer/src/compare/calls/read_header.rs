@@ -1,0 +1,83 @@
+//! The header of a frame, read in the driver's form.
+
+use peer::frame::{self, Header};
+use peer::random::Random;
+use peer::refusal::{ADDRESS, CHECKSUM, FIELD, NONE, ROOM, SHORT_FRAME};
+
+use crate::compare::call::{Call, Case};
+use crate::compare::frames::{any_frame, edge_frames, frame, sound_fields};
+use crate::compare::room::{told, Room};
+use crate::rattle;
+
+/// The bytes of the answer: ten words.
+const BYTES: usize = 40;
+
+/// The call `tbexlum_read_header`.
+pub struct ReadHeader;
+
+impl Call for ReadHeader {
+    type Input = Vec<u8>;
+    type Rooms = Room<u8>;
+
+    const NAME: &'static str = "read header";
+    const NUMBERS: &'static [u32] = &[NONE, ROOM, SHORT_FRAME, FIELD, CHECKSUM, ADDRESS];
+    const INPUTS: u32 = 1_000_000;
+    const CASES: &'static [Case<Vec<u8>>] = &[
+        case::<false, 0>("no proxy"),
+        case::<true, 0>("proxy"),
+        case::<false, 1500>("1,500 bytes behind"),
+    ];
+
+    fn any(random: &mut Random) -> Vec<u8> {
+        any_frame(random)
+    }
+
+    fn edges() -> impl Iterator<Item = Vec<u8>> {
+        edge_frames()
+    }
+
+    fn rooms(_: &Vec<u8>, random: &mut Random) -> Room<u8> {
+        Room::any(random, BYTES, BYTES + 4)
+    }
+
+    fn ample_rooms() -> Room<u8> {
+        Room::new(BYTES)
+    }
+
+    fn rattle(frame: &Vec<u8>, room: &mut Room<u8>) -> u32 {
+        rattle::read_header(frame, room.lent())
+    }
+
+    fn peer(frame: &Vec<u8>, room: &mut Room<u8>) -> u32 {
+        let header = frame::read(frame);
+        let words = words(&header).map(u32::to_be_bytes);
+        told(header.refusal, words.as_flattened(), room.lent())
+    }
+}
+
+/// The words of the driver's form.
+fn words(header: &Header) -> [u32; BYTES / 4] {
+    [
+        header.header_length,
+        header.protocol,
+        header.payload_length,
+        header.identification,
+        header.retry,
+        header.ttl,
+        header.source,
+        header.destination,
+        u32::from(header.has_proxy),
+        header.proxy,
+    ]
+}
+
+/// A line of the benchmark: sound frames with a proxy or without, and so many bytes behind the header.
+const fn case<const PROXY: bool, const BEHIND: u16>(name: &'static str) -> Case<Vec<u8>> {
+    Case {
+        name,
+        draw: |random| {
+            let fields = sound_fields(random, PROXY, BEHIND);
+            frame(random, &fields)
+        },
+    }
+}
