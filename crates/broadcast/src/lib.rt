@@ -13,7 +13,6 @@ ghost use Rattle.ports.specs.Links.{joined};
 ghost use Rattle.search.specs.Rounds.{start, distances, reachedCount, lastRound};
 ghost use Rattle.broadcast.specs.Sweeps.{Ready};
 ghost use Rattle.broadcast.specs.Broadcasts.{none, scopeFits, scopeSize, tallyOf, broadcastRefusal, broadcastOf, roomOf};
-
 use crate::sweeps::one_round;
 use hall::Hall;
 use hall::refusals::BAD_ADDRESS;
@@ -139,7 +138,13 @@ fn tally(room: &[u16], size: u32) -> Broadcast
 }
 
 // Writes each server's number of links from the source to the room, and answers how many are reached and the last round.
-pub fn broadcast_rounds(h: Hall, table: &[u8], source: u32, scope: u32, room: &mut [u16]) -> Broadcast
+pub fn broadcast_rounds(
+    h: Hall,
+    table: &[u8],
+    source: u32,
+    scope: u32,
+    room: &mut [u16],
+) -> Broadcast
     ensures answer { λ r. ⌜ r ≡ broadcastOf h (now (table .entry)) source scope (now (room .entry)) ⌝ }
     ensures room { λ _. ⌜ now (room .exit) ≡ roomOf h (now (table .entry)) source scope (now (room .entry)) ⌝ }
 {

@@ -9,7 +9,6 @@ ghost use Rattle.ports.specs.Codes.{up};
 ghost use Rattle.combine.specs.Tests.{both};
 ghost use Rattle.ports.specs.Links.{bothUp, switchHas};
 ghost use Rattle.broadcast.specs.Sweeps.{reachedBy, fresh, Sweep, openOn, onSwitch, onSwitches, overLink, onLinks, onLevels, within, SwitchFits, LinksFit, RoundFits};
-
 use crate::NONE;
 use crate::places::Place;
 use crate::places::neighbour_at;
@@ -164,7 +163,14 @@ fn over_levels(h: Hall, table: &[u8], room: &mut [u16], r: u16, size: u32, level
 }
 
 // Round r: whoever is not reached and is joined to one who is reached before gets r + 1. Answers whether anybody does.
-pub(crate) fn one_round(h: Hall, table: &[u8], room: &mut [u16], r: u16, scope: u32, size: u32) -> bool
+pub(crate) fn one_round(
+    h: Hall,
+    table: &[u8],
+    room: &mut [u16],
+    r: u16,
+    scope: u32,
+    size: u32,
+) -> bool
     requires { ⌜ RoundFits h scope size r (now room) ⌝ }
     ensures { λ o. ⌜ Sweep (within h (now (table .entry)) (reachedBy r (now (room .entry))) size scope) r (now (room .entry)) (now (room .exit)) o ⌝ }
 {

@@ -7,10 +7,12 @@ ghost use Rattle.hall.specs.Answers.{sizesOf, uidOf, tupleOf, cellAround, neigh
 ghost use Rattle.route.specs.Answers.{routeBetween};
 ghost use Rattle.ports.specs.Answers.{checkOf};
 ghost use Rattle.local.specs.Answers.{distancesOf, nextHopOf};
+ghost use Rattle.forward.specs.Answers.{journeyOf};
 ghost use Rattle.broadcast.specs.Broadcasts.{broadcastOf, roomOf};
 ghost use Rattle.frame.specs.Reading.{payloadOf, nextIdentification};
 ghost use Rattle.hall.specs.Rooms.{told, written};
-ghost use Rattle.calls.specs.Outcomes.{hallOf, ofSizes, ofUid, ofTuple, ofCell, ofNeighbour, ofLink, ofRoute, ofPart, ofDistances, ofOrigin, ofNextHop, ofBroadcast};
+ghost use Rattle.calls.specs.Outcomes.{hallOf, ofSizes, ofUid, ofTuple, ofCell, ofNeighbour, ofLink, ofRoute, ofPart, ofDistances, ofOrigin, ofNextHop, ofBroadcast, packetOf, ofPassed, ofCounts};
+use forward::Packet;
 use hall::Hall;
 use hall::refusals::SHORT_ROOM;
 
@@ -279,5 +281,63 @@ pub extern "C" fn calls_broadcast(
 {
     let a = broadcast::broadcast_rounds(Hall { n, k, b }, table, source, scope, rounds);
     let words = [a.reached, a.last];
+    tell(a.refusal, &words, room)
+}
+
+#[no_mangle]
+pub extern "C" fn calls_journey(
+    n: u32,
+    k: u32,
+    b: u32,
+    source: u32,
+    dst: u32,
+    has_proxy: u32,
+    proxy: u32,
+    retry: u8,
+    ttl: u8,
+    table: &[u8],
+    room: &mut [u32],
+) -> u32
+    ensures number { λ r. ⌜ r ≡ told (ofPassed (journeyOf (hallOf n k b) source (packetOf dst «has_proxy» proxy retry ttl) (now (table .entry)))) (now (room .entry)) ⌝ }
+    ensures room { λ _. ⌜ now (room .exit) ≡ written (ofPassed (journeyOf (hallOf n k b) source (packetOf dst «has_proxy» proxy retry ttl) (now (table .entry)))) (now (room .entry)) ⌝ }
+{
+    let packet = Packet {
+        dst,
+        has_proxy: has_proxy != 0,
+        proxy,
+        retry,
+        ttl,
+    };
+    let a = forward::journey_of(Hall { n, k, b }, source, packet, table);
+    let words = a.uids;
+    tell(a.refusal, &words, room)
+}
+
+#[no_mangle]
+pub extern "C" fn calls_journey_counts(
+    n: u32,
+    k: u32,
+    b: u32,
+    source: u32,
+    dst: u32,
+    has_proxy: u32,
+    proxy: u32,
+    retry: u8,
+    ttl: u8,
+    table: &[u8],
+    room: &mut [u32],
+) -> u32
+    ensures number { λ r. ⌜ r ≡ told (ofCounts (journeyOf (hallOf n k b) source (packetOf dst «has_proxy» proxy retry ttl) (now (table .entry)))) (now (room .entry)) ⌝ }
+    ensures room { λ _. ⌜ now (room .exit) ≡ written (ofCounts (journeyOf (hallOf n k b) source (packetOf dst «has_proxy» proxy retry ttl) (now (table .entry)))) (now (room .entry)) ⌝ }
+{
+    let packet = Packet {
+        dst,
+        has_proxy: has_proxy != 0,
+        proxy,
+        retry,
+        ttl,
+    };
+    let a = forward::journey_of(Hall { n, k, b }, source, packet, table);
+    let words = [a.ending, a.links, a.reroutes];
     tell(a.refusal, &words, room)
 }

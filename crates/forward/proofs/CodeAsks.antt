@@ -150,8 +150,8 @@ unrefused h level table me p z =
     let l : Bool = eqb (length table) (cellLength h level) in
     let x : Bool = either (not (p .«has_proxy»)) (ltb (p .proxy) (servers h)) in
     let w = six (valid h) l (ltb me (servers h)) (ltb (p .dst) (servers h)) x (leb (p .retry) 15)
-        (sym (all-tests (valid h) l (ltb me (servers h)) (ltb (p .dst) (servers h)) x (leb (p .retry) 15)
-        ∙ rw (packet-tests (ltb me (servers h)) (ltb (p .dst) (servers h)) x (leb (p .retry) 15))) ∙ z) in
+    (sym (all-tests (valid h) l (ltb me (servers h)) (ltb (p .dst) (servers h)) x (leb (p .retry) 15)
+    ∙ rw (packet-tests (ltb me (servers h)) (ltb (p .dst) (servers h)) x (leb (p .retry) 15))) ∙ z) in
     record {
       sound = w .0;
       long = eqb-true (length table) (cellLength h level) (w .1);

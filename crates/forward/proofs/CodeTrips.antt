@@ -42,11 +42,14 @@ module _ (h : Hall) (table : List ℕ) (me : ℕ) (p : Packet) (a : Departing h 
   -- the step of a server of the hall, over the part that it is handed
   module _ (lent : List ℕ) (e : lent ≡ partOf h table me) where
     pub part-here : Here h lent me × Sound h p
-    part-here = (record {
-      sound = a .sound;
-      long = ap length (e ∙ part-whole) ∙ length-run h table me (h .b) known (valid-known h (a .sound) .b-low);
-      fits = a .fits;
-    }, a .packet)
+    part-here = (
+      record {
+        sound = a .sound;
+        long = ap length (e ∙ part-whole) ∙ length-run h table me (h .b) known (valid-known h (a .sound) .b-low);
+        fits = a .fits;
+      },
+      a .packet,
+    )
 
     pub step-is : (o : Step) → o ≡ step h lent me p → o ≡ stepAt h table me p
     step-is o q = q ∙ ap (λ (l : List ℕ). step h l me p) (e ∙ part-whole)
@@ -91,7 +94,7 @@ module _ (h : Hall) (table : List ℕ) (me : ℕ) (p : Packet) (a : Departing h 
       departs-again =
           let s = tidied-sound h p (tidied p) refl (a .packet) in
           let f = step-forwards h (seen h (part h table me)) (λ x w. linked h (part h table me) x w ≡ true) (seen-links h (part h table me) (valid-known h (a .sound)))
-              (a .sound) me (tidied p) (a .fits) (record { dst-in = s .dst-fits; proxy-in = s .proxy-fits }) forwards in
+          (a .sound) me (tidied p) (a .fits) (record { dst-in = s .dst-fits; proxy-in = s .proxy-fits }) forwards in
           let g = step-sends h table me p forwards in
           rw q (record {
             sound = a .sound;
@@ -159,7 +162,7 @@ module _ (h : Hall) (table : List ℕ) (source : ℕ) (packet : Packet) where
           (journeyFrom (trip h table source packet))
       ends-journey ne =
           let e : trip h table source packet ≡ behind (w .filled) at reroutes (endsAt me o) =
-              w .whole ∙ ap (behind (w .filled) at reroutes) (trip-ends h table me p (w .departing) o q ne) in
+          w .whole ∙ ap (behind (w .filled) at reroutes) (trip-ends h table me p (w .departing) o q ne) in
           let z : at + 0 ≡ at = omega arith in
           rw (passed-there, e, z)
 

@@ -71,9 +71,13 @@ module _ (h : Hall) (table : List ℕ) (v : Valid h) where
         let up : d ≡ suc (d - 1) = omega arith in
         let z = distance-nearer (linked h table) (cellSize h) none small y hy x (d - 1) hx ne up in
         let one : getD (distances (linked h table) (cellSize h) none y) (z .0) 0 + 1 ≡ d = omega (arith, z .2) in
-        omega (arith, lowest-some (nearer h table x y) (cellSize h) 0 (z .0) (omega arith) (omega (arith, z .1))
-        (both-true (eqb (getD (distances (linked h table) (cellSize h) none y) (z .0) 0 + 1) d) (linked h table x (z .0))
-        (eq-eqb (getD (distances (linked h table) (cellSize h) none y) (z .0) 0 + 1) d one) (linked-back x (z .0) ∙ z .3)), z .1)
+        omega (
+          arith,
+          lowest-some (nearer h table x y) (cellSize h) 0 (z .0) (omega arith) (omega (arith, z .1))
+              (both-true (eqb (getD (distances (linked h table) (cellSize h) none y) (z .0) 0 + 1) d) (linked h table x (z .0))
+              (eq-eqb (getD (distances (linked h table) (cellSize h) none y) (z .0) 0 + 1) d one) (linked-back x (z .0) ∙ z .3)),
+          z .1,
+        )
 
     distance-near : (z : ℕ) → z < cellSize h → distance h table y z + 1 ≡ none → ⊥
     unfolding distance distancesFrom

@@ -156,7 +156,7 @@ module _ (h : Hall) (s : Seen) (me : ℕ) (came : Packet) (is-valid : valid h �
     ends-onward {p} (nears {target = target} t r) k q =
         let n = target-near t k in
         let z = links (placeOf h me) (placeOf h target) (place-fits h known me) (place-fits h known target)
-            (λ e. n .1 (place-one h me target (n .0) e)) (unreached target r) in
+        (λ e. n .1 (place-one h me target (n .0) e)) (unreached target r) in
         record {
           hop = inside (s .hop (placeOf h me) (placeOf h target)) (z .0) refl (z .1);
           inside-hall = place-in h known me (s .hop (placeOf h me) (placeOf h target)) here (z .0);

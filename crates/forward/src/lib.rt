@@ -346,7 +346,15 @@ fn step_from(h: Hall, table: &[u8], me: u32, came: Packet, p: Packet, arrived: b
 }
 
 // The step by another way, with one retry less.
-fn reroute(h: Hall, table: &[u8], me: u32, came: Packet, link: Crossing, p: Packet, arrived: bool) -> Step
+fn reroute(
+    h: Hall,
+    table: &[u8],
+    me: u32,
+    came: Packet,
+    link: Crossing,
+    p: Packet,
+    arrived: bool,
+) -> Step
     requires { ⌜ Stopped h (now table) me link p ⌝ }
     ensures { λ r. ⌜ r ≡ rerouteOn h (seen h (now (table .entry))) me came (p .retry) link p arrived ⌝ }
 {
@@ -356,7 +364,11 @@ fn reroute(h: Hall, table: &[u8], me: u32, came: Packet, link: Crossing, p: Pack
     let q = retried(p);
     match link {
         Crossing::Nothing => counted(step_from(h, table, me, came, cleared(q), false)),
-        Crossing::Link { near: _, far: _, level } => {
+        Crossing::Link {
+            near: _,
+            far: _,
+            level,
+        } => {
             match choose(h, table, me, first_level(h, level, arrived)) {
                 Candidate::Nothing => ended(DROP_PROXY, came),
                 Candidate::At { place, level: at } => {

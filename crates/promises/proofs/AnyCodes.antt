@@ -51,13 +51,13 @@ module _ (h : Hall) (table : List ℕ) (is-valid : valid h ≡ true) where
   stands-on : (me : ℕ) (p : Packet) → Stands me p → stepAt h table me p .ending ≡ forwarded → Stands (stepAt h table me p .next) (stepAt h table me p .packet)
   stands-on me p k e =
       let f = step-forwards h (seen h (part h table me)) (λ x z. linked h (part h table me) x z ≡ true) (seen-links h (part h table me) known) is-valid
-          me (tidied p) (k .0) (tidied-fits h p (k .1)) e in
+      me (tidied p) (k .0) (tidied-fits h p (k .1)) e in
       (f .inside-hall, f .packet-fits)
 
   hops-usable : (me : ℕ) (p : Packet) → Stands me p → stepAt h table me p .ending ≡ forwarded → Usable h table me (stepAt h table me p .next)
   hops-usable me p k e =
       let f = step-forwards h (seen h (part h table me)) (λ x z. linked h (part h table me) x z ≡ true) (seen-links h (part h table me) known) is-valid
-          me (tidied p) (k .0) (tidied-fits h p (k .1)) e in
+      me (tidied p) (k .0) (tidied-fits h p (k .1)) e in
       hop-usable me (stepAt h table me p .next) (f .hop)
 
 -- what the ending of a step means

@@ -41,11 +41,11 @@ pub answered-journey : (h : Hall) (table : List ℕ) (source : ℕ) (p : Packet)
     → journeyOf h source p table ≡ journeyFrom (trip h table source p)
 answered-journey h table source p s r =
     let z = not-refused (valid h) (eqb (length table) (tableLength h)) (ltb source (servers h)) (ltb (p .dst) (servers h))
-        (either (not (p .«has_proxy»)) (ltb (p .proxy) (servers h))) (leb (p .retry) 15)
-        (s .hall-valid) (eq-eqb (length table) (tableLength h) (s .table-long)) (lt-ltb source (servers h) (s .source-in))
-        (lt-ltb (p .dst) (servers h) (s .dst-in))
-        (proxy-asked (p .«has_proxy») (ltb (p .proxy) (servers h)) (λ e. lt-ltb (p .proxy) (servers h) (s .proxy-in e)))
-        (le-leb (p .retry) 15 r) in
+    (either (not (p .«has_proxy»)) (ltb (p .proxy) (servers h))) (leb (p .retry) 15)
+    (s .hall-valid) (eq-eqb (length table) (tableLength h) (s .table-long)) (lt-ltb source (servers h) (s .source-in))
+    (lt-ltb (p .dst) (servers h) (s .dst-in))
+    (proxy-asked (p .«has_proxy») (ltb (p .proxy) (servers h)) (λ e. lt-ltb (p .proxy) (servers h) (s .proxy-in e)))
+    (le-leb (p .retry) 15 r) in
     ap (λ (number : ℕ). pick (eqb number 0) (journeyFrom (trip h table source p))
     (record { refusal = number; ending = 0; links = 0; reroutes = 0; uids = replicate 256 0 })) z
 
@@ -59,7 +59,7 @@ told j e l = record {
   same-uids = rw e (take-at (j .uids) (replicate (256 - length (j .uids)) 0) (length (j .uids)) refl);
   zeros-behind =
       let d : drop (j .links + 1) (j .uids ++ replicate (256 - length (j .uids)) 0) ≡ replicate (256 - length (j .uids)) 0 =
-          rw e (drop-at (j .uids) (replicate (256 - length (j .uids)) 0) (length (j .uids)) refl) in
+      rw e (drop-at (j .uids) (replicate (256 - length (j .uids)) 0) (length (j .uids)) refl) in
       d ∙ ap (λ (m : ℕ). replicate {A = ℕ} m 0) (sym (ap length d ∙ length-replicate {A = ℕ} (256 - length (j .uids)) 0));
   places = omega (arith, length-append (j .uids) (replicate (256 - length (j .uids)) 0), length-replicate {A = ℕ} (256 - length (j .uids)) 0);
 }

@@ -195,10 +195,10 @@ module _ (h : Hall) (table : List ℕ) (is-valid : valid h ≡ true) (long : len
       let g = step-goes x p e here there ne (omega (arith, sends .ttl)) in
       let i = goes further (ap (λ (q : Packet). q .«has_proxy») (g .as-before)) (next-in x p e here there w) (rw (sends .dst) there) in
       let m : passes h (p .ttl) x (p .dst) ≡ x ∷ passes h (o .packet .ttl) (o .next) (o .packet .dst) =
-          ap (λ (f : ℕ). passes h f x (p .dst)) (sym (sends .ttl) ∙ add-one (o .packet .ttl))
-          ∙ passed-on (onward h) (h .n) (h .b) (h .k) (o .packet .ttl) x (p .dst) ne
-          ∙ ap (λ (z : ℕ). x ∷ passes h (o .packet .ttl) z (p .dst)) (sym (g .hops-so))
-          ∙ ap (λ (y : ℕ). x ∷ passes h (o .packet .ttl) (o .next) y) (sym (sends .dst)) in
+      ap (λ (f : ℕ). passes h f x (p .dst)) (sym (sends .ttl) ∙ add-one (o .packet .ttl))
+      ∙ passed-on (onward h) (h .n) (h .b) (h .k) (o .packet .ttl) x (p .dst) ne
+      ∙ ap (λ (z : ℕ). x ∷ passes h (o .packet .ttl) z (p .dst)) (sym (g .hops-so))
+      ∙ ap (λ (y : ℕ). x ∷ passes h (o .packet .ttl) (o .next) y) (sym (sends .dst)) in
       let s = passed-starts (onward h) (h .n) (h .b) (h .k) (o .packet .ttl) (o .next) (o .packet .dst) in
       record {
         uids-so = ap (λ (r : List ℕ). x ∷ r) (i .uids-so) ∙ sym m;

@@ -124,7 +124,7 @@ module _ (n : ℕ) (pos : 0 < n) (b l : ℕ) (low : b ≤ l) (next d : ℕ → �
           let h = eqb-true x u q in
           let k : Each (Rises n b l) ((u, v) ∷ r) = rw e at (above-rises n b l x y s) in
           let a : same n b u v ≡ false =
-              apart-mono n {i = b} {j = k .0 .j} u v (k .0 .low) (ap (λ (z : ℕ). same n (k .0 .j) u z) (sym (k .0 .joined)) ∙ neighbour-leaves n pos (k .0 .j) u) in
+          apart-mono n {i = b} {j = k .0 .j} u v (k .0 .low) (ap (λ (z : ℕ). same n (k .0 .j) u z) (sym (k .0 .joined)) ∙ neighbour-leaves n pos (k .0 .j) u) in
           let c : same n b x v ≡ false = rw h a in
           let m : above n b l x y ≡ (x, v) ∷ above n b l v y = cc (i .2) in
           rw (hop-across next n b l x y u v r e h) (takes m (ap not c) (i .1)))

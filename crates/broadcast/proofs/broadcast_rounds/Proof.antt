@@ -19,9 +19,10 @@ same-length c = search needs
 returns : tie.Need-returns
 returns c =
     let a = c .before .before .before .before .before .args in
-    let n = c .before .refused in
-    (answer-refused (a .h) (a .table .now) (a .source) (a .scope) (a .room .now) (n .result) (n .ensures) (c .if1 .taken),
-    room-as-lent (a .h) (a .table .now) (a .source) (a .scope) (a .room .now) (n .result) (n .ensures) (c .if1 .taken))
+    let n = c .before .refused in (
+      answer-refused (a .h) (a .table .now) (a .source) (a .scope) (a .room .now) (n .result) (n .ensures) (c .if1 .taken),
+      room-as-lent (a .h) (a .table .now) (a .source) (a .scope) (a .room .now) (n .result) (n .ensures) (c .if1 .taken),
+    )
 
 scope-size-requires : tie.Need-scope-size-requires
 scope-size-requires c κs =
@@ -123,9 +124,10 @@ returns-2 c =
     let a = c .before .before .before .before .before .before .before .before .before .before .before .before .before .before .before .before .before .before .args in
     let n = c .before .before .before .before .before .before .before .before .before .before .before .before .before .before .refused in
     let k = accepted (a .h) (a .table .now) (a .source) (a .scope) (a .room .now) (sym (n .ensures) ∙ c .before .before .before .before .before .before .before .before .before .before .before .before .before .if1 .left) in
-    let z = c .before .before .before .before .before .before .before .before .before .before .before .before .scope-size in
-    (answer-is (a .h) (a .table .now) (a .source) (a .scope) (a .room .now) k (z .result) (z .ensures) _ (c .before .before .before .before .before .before .before .before .before .begin .ensures) _ (run-is (a .h) (a .table .now) (a .source) (a .scope) (a .room .now) k (z .result) (z .ensures) (z .result * (a .h .k + 1)) refl) _ (c .before .before .before .before .run .ensures) (n .result) (n .ensures) (c .before .before .before .before .before .before .before .before .before .before .before .before .before .if1 .left) (c .tally .result) (c .tally .ensures),
-    room-at-exit (a .h) (a .table .now) (a .source) (a .scope) (a .room .now) k (z .result) (z .ensures) _ (c .before .before .before .before .before .before .before .before .before .begin .ensures) _ (run-is (a .h) (a .table .now) (a .source) (a .scope) (a .room .now) k (z .result) (z .ensures) (z .result * (a .h .k + 1)) refl) _ (c .before .before .before .before .run .ensures) (n .result) (n .ensures) (c .before .before .before .before .before .before .before .before .before .before .before .before .before .if1 .left))
+    let z = c .before .before .before .before .before .before .before .before .before .before .before .before .scope-size in (
+      answer-is (a .h) (a .table .now) (a .source) (a .scope) (a .room .now) k (z .result) (z .ensures) _ (c .before .before .before .before .before .before .before .before .before .begin .ensures) _ (run-is (a .h) (a .table .now) (a .source) (a .scope) (a .room .now) k (z .result) (z .ensures) (z .result * (a .h .k + 1)) refl) _ (c .before .before .before .before .run .ensures) (n .result) (n .ensures) (c .before .before .before .before .before .before .before .before .before .before .before .before .before .if1 .left) (c .tally .result) (c .tally .ensures),
+      room-at-exit (a .h) (a .table .now) (a .source) (a .scope) (a .room .now) k (z .result) (z .ensures) _ (c .before .before .before .before .before .before .before .before .before .begin .ensures) _ (run-is (a .h) (a .table .now) (a .source) (a .scope) (a .room .now) k (z .result) (z .ensures) (z .result * (a .h .k + 1)) refl) _ (c .before .before .before .before .run .ensures) (n .result) (n .ensures) (c .before .before .before .before .before .before .before .before .before .before .before .before .before .if1 .left),
+    )
 
 pub broadcast-rounds-spec : {M : Type 1} → statement M
 broadcast-rounds-spec =

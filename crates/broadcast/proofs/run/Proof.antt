@@ -64,9 +64,11 @@ loop-again c =
     let k = c .before .before .before .before .before .before .before .before .before .pre in
     let w = c .before .before .before .before .before .before .loop in
     let f = c .before .before .before .one-round in
-    let fits = fits-next (a .h) (a .scope) (a .size) 0 (a .room .now) (k .fits) (w .room) (w .r) (w .inv .1) (omega (arith, scope-fits (a .h) (a .scope) (a .size) 0 (a .room .now) (k .fits))) in
-    (omega arith, f .ensures .long ∙ w .inv .1,
-    next-marks (a .h) (a .table .now) (a .scope) (a .size) (a .origin) (w .r) (w .room) _ (drop (a .size) (a .room .now)) (f .result) fits (w .inv .2) (f .ensures))
+    let fits = fits-next (a .h) (a .scope) (a .size) 0 (a .room .now) (k .fits) (w .room) (w .r) (w .inv .1) (omega (arith, scope-fits (a .h) (a .scope) (a .size) 0 (a .room .now) (k .fits))) in (
+      omega arith,
+      f .ensures .long ∙ w .inv .1,
+      next-marks (a .h) (a .table .now) (a .scope) (a .size) (a .origin) (w .r) (w .room) _ (drop (a .size) (a .room .now)) (f .result) fits (w .inv .2) (f .ensures),
+    )
 
 same-length-2 : tie.Need-same-length-2 Inv-loop μ-loop
 same-length-2 c = c .before .loop .inv .1

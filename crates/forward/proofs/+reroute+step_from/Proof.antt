@@ -106,11 +106,10 @@ reroute-cleared-requires : (t : ℕ) → reroute-lts.Need-cleared-requires (rero
 reroute-cleared-requires t c κs = search needs
 
 reroute-step-from-requires : (t : ℕ) → reroute-lts.Need-step-from-requires (reroute-env t) (reroute-at t) reroute.Post
-reroute-step-from-requires t c κs =
-    (
-      omega (arith, ap (λ (x : Packet). x .retry) (c .cleared .ensures), ap (λ (x : Packet). x .retry) (c .before .before .before .retried .ensures)),
-      stands-cleared _ _ _ _ _ (c .before .before .before .before .before .before .before .pre .1) _ (c .before .before .before .retried .ensures) _ (c .cleared .ensures),
-    )
+reroute-step-from-requires t c κs = (
+  omega (arith, ap (λ (x : Packet). x .retry) (c .cleared .ensures), ap (λ (x : Packet). x .retry) (c .before .before .before .retried .ensures)),
+  stands-cleared _ _ _ _ _ (c .before .before .before .before .before .before .before .pre .1) _ (c .before .before .before .retried .ensures) _ (c .cleared .ensures),
+)
 
 reroute-counted-requires : (t : ℕ) → reroute-lts.Need-counted-requires (reroute-env t) (reroute-at t) reroute.Post
 reroute-counted-requires t c κs =
@@ -149,12 +148,11 @@ reroute-proxied-requires : (t : ℕ) → reroute-lts.Need-proxied-requires (rero
 reroute-proxied-requires t c κs = search needs
 
 reroute-step-from-requires-2 : (t : ℕ) → reroute-lts.Need-step-from-requires-2 (reroute-env t) (reroute-at t) reroute.Post
-reroute-step-from-requires-2 t c κs =
-    (
-      omega (arith, ap (λ (x : Packet). x .retry) (c .proxied .ensures), ap (λ (x : Packet). x .retry) (c .before .before .before .before .before .before .before .before .before .before .retried .ensures)),
-      stands-proxied _ _ _ _ _ (c .before .before .before .before .before .before .before .before .before .before .before .before .before .before .pre .1) _ _ _ (c .before .before .before .before .before .before .before .before .link .given .1) (c .before .before .before .before .before .before .before .before .before .before .before .before .before .before .args .arrived) _ (c .before .before .before .before .before .before .first-level .ensures) _ _ (c .before .before .before .before .before .choose .ensures) _ _ (c .before .before .before .place .given .1)
-          _ (c .before .before .before .before .before .before .before .before .before .before .retried .ensures) _ (c .before .proxy-of .ensures) _ (c .proxied .ensures),
-    )
+reroute-step-from-requires-2 t c κs = (
+  omega (arith, ap (λ (x : Packet). x .retry) (c .proxied .ensures), ap (λ (x : Packet). x .retry) (c .before .before .before .before .before .before .before .before .before .before .retried .ensures)),
+  stands-proxied _ _ _ _ _ (c .before .before .before .before .before .before .before .before .before .before .before .before .before .before .pre .1) _ _ _ (c .before .before .before .before .before .before .before .before .link .given .1) (c .before .before .before .before .before .before .before .before .before .before .before .before .before .before .args .arrived) _ (c .before .before .before .before .before .before .first-level .ensures) _ _ (c .before .before .before .before .before .choose .ensures) _ _ (c .before .before .before .place .given .1)
+      _ (c .before .before .before .before .before .before .before .before .before .before .retried .ensures) _ (c .before .proxy-of .ensures) _ (c .proxied .ensures),
+)
 
 reroute-counted-requires-2 : (t : ℕ) → reroute-lts.Need-counted-requires-2 (reroute-env t) (reroute-at t) reroute.Post
 reroute-counted-requires-2 t c κs =

@@ -57,14 +57,14 @@ loop-again c =
     let w = c .before .before .before .before .loop in
     let q : ℕ → _ = openOn (a .h) (a .table .now) (a .s) in
     let e : c .before .is-open .result ≡ fresh q (a .room .now) (w .x) =
-        c .before .is-open .ensures
-        ∙ fresh-now q (a .r) (a .room .now) (w .room) (w .any) (w .x) (λ y. up (a .h) (a .table .now) y 0) (w .inv .3)
-        ∙ open-here (a .h) (a .table .now) (a .s) (a .room .now) (w .x) (w .inv .0) (c .before .before .before .loop-test .taken) in
+    c .before .is-open .ensures
+    ∙ fresh-now q (a .r) (a .room .now) (w .room) (w .any) (w .x) (λ y. up (a .h) (a .table .now) y 0) (w .inv .3)
+    ∙ open-here (a .h) (a .table .now) (a .s) (a .room .now) (w .x) (w .inv .0) (c .before .before .before .loop-test .taken) in
     let swept : Sweep (below q (w .x + 1)) (a .r) (a .room .now) (c .if1 .room) (c .if1 .any) =
-        ⊎-elim
-        (λ y. rw (y .1, y .2) (sweep-store q (a .r) (a .room .now) (w .room) (w .any) (w .x) (w .inv .3) (sym e ∙ y .0 .taken)))
-        (λ y. rw (y .1, y .2) (sweep-skip q (a .r) (a .room .now) (w .room) (w .any) (w .x) (w .inv .3) (sym e ∙ y .0 .left)))
-        (c .if1 .came) in
+    ⊎-elim
+    (λ y. rw (y .1, y .2) (sweep-store q (a .r) (a .room .now) (w .room) (w .any) (w .x) (w .inv .3) (sym e ∙ y .0 .taken)))
+    (λ y. rw (y .1, y .2) (sweep-skip q (a .r) (a .room .now) (w .room) (w .any) (w .x) (w .inv .3) (sym e ∙ y .0 .left)))
+    (c .if1 .came) in
     (omega arith, omega arith, swept .long, swept)
 
 same-length : tie.Need-same-length Inv-loop μ-loop

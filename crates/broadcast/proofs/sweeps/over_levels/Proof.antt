@@ -79,13 +79,13 @@ loop-again c =
     let same = reads-same q (a .r) old (w .room) (w .any) (omega (arith, k .small)) (w .inv .3) in
     let mine : Sweep (onLinks (a .h) (a .table .now) p (a .size) (w .j)) (a .r) (w .room) _ (f .result) = rw same at (f .ensures) in
     let swept = sweep-cong (λ y. either (q y) (onLinks (a .h) (a .table .now) p (a .size) (w .j) y)) (onLevels (a .h) (a .table .now) p (a .size) (w .j + 1)) (a .r) old _ (either (w .any) (f .result))
-        (levels-next (a .h) (a .table .now) p (a .size) (w .j) old)
-        (sweep-then q (onLinks (a .h) (a .table .now) p (a .size) (w .j)) (a .r) old (w .room) _ (w .any) (f .result) (omega (arith, k .small)) (w .inv .3) mine) in
+    (levels-next (a .h) (a .table .now) p (a .size) (w .j) old)
+    (sweep-then q (onLinks (a .h) (a .table .now) p (a .size) (w .j)) (a .r) old (w .room) _ (w .any) (f .result) (omega (arith, k .small)) (w .inv .3) mine) in
     let told : c .if1 .any ≡ either (w .any) (f .result) =
-        ⊎-elim
-        (λ y. y .1 ∙ rw (y .0 .taken) (sym (either-true (w .any))))
-        (λ y. y .1 ∙ rw (y .0 .left) (sym (either-false (w .any))))
-        (c .if1 .came) in
+    ⊎-elim
+    (λ y. y .1 ∙ rw (y .0 .taken) (sym (either-true (w .any))))
+    (λ y. y .1 ∙ rw (y .0 .left) (sym (either-false (w .any))))
+    (c .if1 .came) in
     (omega arith, t-next (a .h .n) (w .j) (w .cell) (w .inv .1), swept .long, rw told swept)
 
 same-length : tie.Need-same-length Inv-loop μ-loop

@@ -28,9 +28,12 @@ loop-holds : tie.Need-loop-holds Inv-loop μ-loop
 loop-holds c =
     let a = c .before .before .args in
     let k = c .before .before .pre in
-    let pos : 0 < a .cell = rw (k .cell-is) (t-pos (a .h .n) (omega (arith, k .fits .n-low)) (a .j)) in
-    (omega arith, search needs, place-start (a .cell) pos,
-    sweep-none (below (overLink (a .h) (a .table .now) (reachedBy (a .r) (a .room .now)) (a .j)) 0) (a .r) (a .room .now) (links-start (a .h) (a .table .now) (reachedBy (a .r) (a .room .now)) (a .j) (a .room .now)))
+    let pos : 0 < a .cell = rw (k .cell-is) (t-pos (a .h .n) (omega (arith, k .fits .n-low)) (a .j)) in (
+      omega arith,
+      search needs,
+      place-start (a .cell) pos,
+      sweep-none (below (overLink (a .h) (a .table .now) (reachedBy (a .r) (a .room .now)) (a .j)) 0) (a .r) (a .room .now) (links-start (a .h) (a .table .now) (reachedBy (a .r) (a .room .now)) (a .j) (a .room .now)),
+    )
 
 add-is-reached : tie.Need-add-is-reached Inv-loop μ-loop
 add-is-reached c = let k = c .before .before .before .before .before .pre in omega (arith, k .fits .scope-high, k .below)
@@ -94,15 +97,15 @@ loop-again c =
     let same = reads-same (below q (w .x)) (a .r) old (w .room) (w .any) (omega (arith, k .fits .small)) (w .inv .3) in
     let y = near-is (a .h .n) (a .j) (a .cell) (w .x) (near .result) (w .p) (k .cell-is) (w .inv .2) (near .ensures) in
     let e : test .result ≡ fresh q old (w .x) =
-        test .ensures
-        ∙ ap (λ (f : ℕ → Bool). fresh (λ v. both (f (near .result)) (bothUp (a .h) (a .table .now) (a .j + 1) (near .result) v)) (w .room) (w .x)) same
-        ∙ fresh-now q (a .r) old (w .room) (w .any) (w .x) (λ v. both (p (near .result)) (bothUp (a .h) (a .table .now) (a .j + 1) (near .result) v)) (w .inv .3)
-        ∙ link-here (a .h) (a .table .now) p (a .j) (near .result) old (w .x) y in
+    test .ensures
+    ∙ ap (λ (f : ℕ → Bool). fresh (λ v. both (f (near .result)) (bothUp (a .h) (a .table .now) (a .j + 1) (near .result) v)) (w .room) (w .x)) same
+    ∙ fresh-now q (a .r) old (w .room) (w .any) (w .x) (λ v. both (p (near .result)) (bothUp (a .h) (a .table .now) (a .j + 1) (near .result) v)) (w .inv .3)
+    ∙ link-here (a .h) (a .table .now) p (a .j) (near .result) old (w .x) y in
     let swept : Sweep (below q (w .x + 1)) (a .r) old (c .before .if1 .room) (c .before .if1 .any) =
-        ⊎-elim
-        (λ z. rw (z .1, z .2) (sweep-store q (a .r) old (w .room) (w .any) (w .x) (w .inv .3) (sym e ∙ z .0 .taken)))
-        (λ z. rw (z .1, z .2) (sweep-skip q (a .r) old (w .room) (w .any) (w .x) (w .inv .3) (sym e ∙ z .0 .left)))
-        (c .before .if1 .came) in
+    ⊎-elim
+    (λ z. rw (z .1, z .2) (sweep-store q (a .r) old (w .room) (w .any) (w .x) (w .inv .3) (sym e ∙ z .0 .taken)))
+    (λ z. rw (z .1, z .2) (sweep-skip q (a .r) old (w .room) (w .any) (w .x) (w .inv .3) (sym e ∙ z .0 .left)))
+    (c .before .if1 .came) in
     (omega arith, swept .long, c .next-place .ensures ∙ rw (w .inv .2) (place-next (a .cell) (w .x) pos), swept)
 
 same-length : tie.Need-same-length Inv-loop μ-loop

@@ -59,13 +59,13 @@ loop-again c =
     let same = reads-same q (a .r) old (w .room) (w .any) (omega (arith, k .3)) (w .inv .2) in
     let mine : Sweep (onSwitch (a .h) (a .table .now) p (w .s)) (a .r) (w .room) _ (f .result) = rw same at (f .ensures) in
     let swept = sweep-cong (λ y. either (q y) (onSwitch (a .h) (a .table .now) p (w .s) y)) (onSwitches (a .h) (a .table .now) p ((w .s + 1) * a .h .n)) (a .r) old _ (either (w .any) (f .result))
-        (switches-next (a .h) (a .table .now) p (w .s) old)
-        (sweep-then q (onSwitch (a .h) (a .table .now) p (w .s)) (a .r) old (w .room) _ (w .any) (f .result) (omega (arith, k .3)) (w .inv .2) mine) in
+    (switches-next (a .h) (a .table .now) p (w .s) old)
+    (sweep-then q (onSwitch (a .h) (a .table .now) p (w .s)) (a .r) old (w .room) _ (w .any) (f .result) (omega (arith, k .3)) (w .inv .2) mine) in
     let told : c .if1 .any ≡ either (w .any) (f .result) =
-        ⊎-elim
-        (λ y. y .1 ∙ rw (y .0 .taken) (sym (either-true (w .any))))
-        (λ y. y .1 ∙ rw (y .0 .left) (sym (either-false (w .any))))
-        (c .if1 .came) in
+    ⊎-elim
+    (λ y. y .1 ∙ rw (y .0 .taken) (sym (either-true (w .any))))
+    (λ y. y .1 ∙ rw (y .0 .left) (sym (either-false (w .any))))
+    (c .if1 .came) in
     (omega arith, swept .long, rw told swept)
 
 same-length : tie.Need-same-length Inv-loop μ-loop
