@@ -77,13 +77,19 @@ extern "C" {
 
 /* The bytes of the header, 20 or 24; the payload starts there. */
 #define TBEXLUM_READ_HEADER_BYTES_AT 0u
+/* The protocol, 0 to 255. */
 #define TBEXLUM_READ_PROTOCOL_AT 4u
 /* The bytes of the payload; what is behind it is padding. */
 #define TBEXLUM_READ_PAYLOAD_LENGTH_AT 8u
+/* The identification. */
 #define TBEXLUM_READ_IDENTIFICATION_AT 12u
+/* The retry, 0 to TBEXLUM_MOST_RETRY. */
 #define TBEXLUM_READ_RETRY_AT 16u
+/* The TTL, 0 to 255. */
 #define TBEXLUM_READ_TTL_AT 20u
+/* The source, a server. */
 #define TBEXLUM_READ_SOURCE_AT 24u
+/* The destination, a server or a broadcast. */
 #define TBEXLUM_READ_DESTINATION_AT 28u
 /* 1 where there is a proxy, else 0. */
 #define TBEXLUM_READ_HAS_PROXY_AT 32u
@@ -98,12 +104,13 @@ extern "C" {
 #define TBEXLUM_STEP_ENDING_AT 0u
 /* The uid to send to; 0 unless the packet is forwarded. */
 #define TBEXLUM_STEP_NEXT_AT 4u
-/* The packet to send on; where the packet is delivered or dropped, the packet as it came. */
+/* The destination of the packet to send on; where it is delivered or dropped, this and what follows is the packet as it came. */
 #define TBEXLUM_STEP_DST_AT 8u
 /* 1 where it has a proxy, else 0. */
 #define TBEXLUM_STEP_HAS_PROXY_AT 12u
 /* Its proxy, 0 where it has none. */
 #define TBEXLUM_STEP_PROXY_AT 16u
+/* Its retry, lowered by one for each reroute where it is forwarded. */
 #define TBEXLUM_STEP_RETRY_AT 20u
 /* Its TTL, lowered by one where it is forwarded. */
 #define TBEXLUM_STEP_TTL_AT 24u

@@ -36,7 +36,9 @@ static const char worked_step[] = "00000000 00000004 00000013 00000001 00000004 
 /* A room for any answer. */
 #define ANY_ROOM 256u
 /* Questions of each random test. */
+#ifndef RANDOM_QUESTIONS
 #define RANDOM_QUESTIONS 40000u
+#endif
 /* The greatest number. */
 #define HUGE_WORD 4294967295u
 /* The stack in bytes that no call may exceed, as docs/DRIVER.md says. */
@@ -45,9 +47,10 @@ static const char worked_step[] = "00000000 00000004 00000013 00000001 00000004 
 #define HEADER_STACK 512u
 
 /* Numbers that are at an edge of some rule. */
-static const uint32_t edges[] = {0,     1,     2,          3,          4,           5,           7,           8,          9,
-                                 15,    16,    19,         20,         255,         256,         65535,       27630791u,  27630792u,
-                                 1806u, 1805u, 2147483647u, 2147483648u, 2415919103u, 4026531839u, 4294967294u, HUGE_WORD};
+static const uint32_t edges[] = {
+    0, 1, 2, 3, 4, 5, 7, 8, 9, 15, 16, 19, 20, 255, 256, 1805, 1806, 65535, 65536, 27630791u, 27630792u, 2147483647u, 2147483648u,
+    2415919103u, 4026531839u, 4294967294u, HUGE_WORD,
+};
 #define EDGES (sizeof edges / sizeof edges[0])
 
 /* ---- Tests: a name, and what it demands ---- */
@@ -359,6 +362,12 @@ static int refuses(struct question q, uint32_t number)
     return ask(&q, NULL, 0) == number;
 }
 
+/* The same with a room of one length. */
+static int refuses_once(struct question q, uint32_t number)
+{
+    return tells(&q, TBEXLUM_ROUTE_ROOM, number, NULL, 0);
+}
+
 /* Whether a call is answered, whatever the answer is. */
 static int is_answered(struct question q)
 {
@@ -465,10 +474,13 @@ static void each_hall(void (*visit)(uint32_t n, uint32_t k, uint32_t b))
     }
 }
 
-/* Halls that are none, each for one reason. */
+/* Numbers that make no hall. */
 static const uint32_t no_halls[][3] = {
-    {0, 1, 0}, {1, 1, 0}, {9, 1, 0},  {258, 1, 0}, {2147483650u, 1, 0},   {HUGE_WORD, 1, 0},         {4, 4, 0},
-    {4, 256, 0}, {4, HUGE_WORD, 0}, {4, 1, 2}, {4, 3, 2}, {4, 0, 1}, {4, 1, 256}, {4, 3, HUGE_WORD}, {HUGE_WORD, HUGE_WORD, HUGE_WORD}};
+    {0, 1, 0}, {1, 1, 0}, {9, 1, 0}, {258, 1, 0}, {2147483650u, 1, 0}, {HUGE_WORD, 1, 0},
+    {4, 4, 0}, {4, 256, 0}, {4, HUGE_WORD, 0},
+    {4, 1, 2}, {4, 3, 2}, {4, 0, 1}, {4, 1, 256}, {4, 3, HUGE_WORD},
+    {HUGE_WORD, HUGE_WORD, HUGE_WORD},
+};
 #define NO_HALLS (sizeof no_halls / sizeof no_halls[0])
 
 /* ---- Route ---- */
@@ -742,16 +754,678 @@ static void read_headers(void)
     for (first = 0; first < 256; first++) {
         for (flags = 0; flags < 16; flags++) {
             uint8_t frame[64];
-            int fits = (first == 0x15 && flags == 0) || (first == 0x16 && flags == 1);
             memset(frame, 0, sizeof frame);
             frame[0] = (uint8_t)first;
             frame[8] = (uint8_t)(80 + flags);
             seal(frame, (first & 15) == 6 ? 24 : 20);
-            if (fits) {
+            if ((first == 0x15 && flags == 0) || (first == 0x16 && flags == 1)) {
                 DEMAND(is_answered(read_question(frame, sizeof frame)));
             } else {
-                DEMAND(tells_refusal_dummy(frame, sizeof frame));
+                DEMAND(refuses_once(read_question(frame, sizeof frame), TBEXLUM_REFUSED_BAD_HEADER));
             }
         }
     }
+}
+
+static void read_checksums(void)
+{
+    uint8_t frame[ANY_ROOM];
+    uint32_t sum;
+    size_t bit;
+    size_t length = bytes_of(worked_frame, frame);
+    for (sum = 0; sum < 65536; sum++) {
+        frame[10] = (uint8_t)(sum >> 8);
+        frame[11] = (uint8_t)sum;
+        if (sum != 0x9AD6) {
+            struct question q = read_question(frame, length);
+            DEMAND(ask(&q, NULL, 0) == TBEXLUM_REFUSED_BAD_CHECKSUM);
+        }
+    }
+    length = bytes_of(worked_proxy_frame, frame);
+    for (bit = 0; bit < 8 * length; bit++) {
+        uint8_t turned = (uint8_t)(1u << bit % 8);
+        frame[bit / 8] ^= turned;
+        DEMAND(!is_answered(read_question(frame, length)));
+        frame[bit / 8] ^= turned;
+    }
+    DEMAND(is_answered(read_question(frame, length)));
+}
+
+static void read_zero_due(void)
+{
+    uint8_t frame[ANY_ROOM];
+    size_t length = bytes_of("15060000 9AD60001 500F0000 00000000 00000013", frame);
+    DEMAND(is_answered(read_question(frame, length)));
+    frame[10] = 255;
+    frame[11] = 255;
+    DEMAND(refuses(read_question(frame, length), TBEXLUM_REFUSED_BAD_CHECKSUM));
+}
+
+/* A frame with these addresses, its checksum right. */
+static struct question read_addresses_question(uint8_t *frame, uint32_t source, uint32_t destination, uint32_t has_proxy, uint32_t proxy)
+{
+    size_t length = has_proxy ? bytes_of(worked_proxy_frame, frame) : bytes_of(worked_frame, frame);
+    put_word(frame, 12, source);
+    put_word(frame, 16, destination);
+    if (has_proxy) {
+        put_word(frame, 20, proxy);
+    }
+    seal(frame, length);
+    return read_question(frame, length);
+}
+
+static void read_addresses(void)
+{
+    uint8_t frame[ANY_ROOM];
+    uint32_t scope;
+    DEMAND(is_answered(read_addresses_question(frame, 2147483647u, 2147483647u, 0, 0)));
+    DEMAND(is_answered(read_addresses_question(frame, 2147483647u, 2147483647u, 1, 2147483647u)));
+    DEMAND(refuses(read_addresses_question(frame, 2147483648u, 19, 0, 0), TBEXLUM_REFUSED_BAD_ADDRESS));
+    DEMAND(refuses(read_addresses_question(frame, HUGE_WORD, 19, 0, 0), TBEXLUM_REFUSED_BAD_ADDRESS));
+    DEMAND(refuses(read_addresses_question(frame, 0, 2147483648u, 0, 0), TBEXLUM_REFUSED_BAD_ADDRESS));
+    DEMAND(refuses(read_addresses_question(frame, 0, 19, 1, 2147483648u), TBEXLUM_REFUSED_BAD_ADDRESS));
+    DEMAND(refuses(read_addresses_question(frame, 0, 19, 1, HUGE_WORD), TBEXLUM_REFUSED_BAD_ADDRESS));
+    for (scope = 0; scope < 8; scope++) {
+        uint32_t everyone = 2415919103u + (scope << 28);
+        DEMAND(is_answered(read_addresses_question(frame, 0, everyone, 0, 0)));
+        DEMAND(refuses(read_addresses_question(frame, 0, everyone - 1, 0, 0), TBEXLUM_REFUSED_BAD_ADDRESS));
+        DEMAND(refuses(read_addresses_question(frame, 0, everyone, 1, 4), TBEXLUM_REFUSED_BAD_ADDRESS));
+    }
+}
+
+static void read_order(void)
+{
+    uint8_t frame[64];
+    size_t length;
+    struct question q;
+    memset(frame, 0, sizeof frame);
+    frame[0] = 0x26;  /* version 2, DHL 6 */
+    frame[3] = 1;     /* a payload of 1 byte */
+    frame[8] = 0x51;  /* retry 5, PF */
+    frame[12] = 0x80; /* a source that is no server */
+    q = read_question(frame, 19);
+    DEMAND(ask(&q, NULL, 0) == TBEXLUM_REFUSED_SHORT_FRAME);
+    q.length = 20;
+    DEMAND(ask(&q, NULL, 0) == TBEXLUM_REFUSED_BAD_HEADER);
+    frame[0] = 0x16;
+    for (length = 20; length < 24; length++) {
+        q.length = length;
+        DEMAND(ask(&q, NULL, 0) == TBEXLUM_REFUSED_SHORT_FRAME);
+    }
+    q.length = 24;
+    DEMAND(ask(&q, NULL, 0) == TBEXLUM_REFUSED_BAD_CHECKSUM);
+    seal(frame, 24);
+    DEMAND(ask(&q, NULL, 0) == TBEXLUM_REFUSED_BAD_ADDRESS);
+    frame[12] = 0;
+    seal(frame, 24);
+    DEMAND(ask(&q, NULL, 0) == TBEXLUM_REFUSED_SHORT_FRAME);
+    q.length = 25;
+    DEMAND(ask(&q, NULL, 0) == TBEXLUM_REFUSED_SHORT_ROOM);
+    DEMAND(is_answered(q));
+}
+
+/* ---- Both ways ---- */
+
+/* The header of these fields, built from the layout; answers its bytes. */
+static size_t header_of(const struct question *says, uint8_t *frame)
+{
+    size_t words = says->has_proxy != 0 ? 6 : 5;
+    put_word(frame, 0, 1u << 28 | (uint32_t)words << 24 | (uint32_t)says->protocol << 16 | says->payload_length);
+    put_word(frame, 4, says->identification);
+    put_word(frame, 8, (uint32_t)says->retry << 28 | (uint32_t)(words - 5) << 24 | (uint32_t)says->ttl << 16);
+    put_word(frame, 12, says->from);
+    put_word(frame, 16, says->to);
+    if (says->has_proxy != 0) {
+        put_word(frame, 20, says->proxy);
+    }
+    seal(frame, 4 * words);
+    return 4 * words;
+}
+
+static void header_both_ways(void)
+{
+    static uint8_t frame[LONGEST_FRAME];
+    uint32_t i;
+    for (i = 0; i < 500; i++) {
+        struct question says = no_question(WRITE);
+        size_t bytes;
+        says.protocol = (uint8_t)random_word();
+        says.payload_length = (uint16_t)random_below(64);
+        says.identification = random_word();
+        says.retry = (uint8_t)random_below(16);
+        says.ttl = (uint8_t)random_word();
+        says.from = random_word() / 2;
+        says.has_proxy = random_below(3);
+        says.proxy = random_word() / 2;
+        says.to = says.has_proxy == 0 && random_below(4) == 0 ? random_word() | 2415919103u : random_word() / 2;
+        bytes = header_of(&says, frame);
+        DEMAND(answers(says, frame, bytes));
+        DEMAND(answers_fields(read_question(frame, bytes + says.payload_length), &says, (uint32_t)bytes));
+    }
+}
+
+/* ---- Step ---- */
+
+/* n = 4, k = 1: the hall table of forty codes, up but for two. */
+static void two_down(uint8_t *table, uint8_t code)
+{
+    memset(table, TBEXLUM_PORT_UP, 40);
+    table[7] = code;
+    table[33] = code;
+}
+
+static void step_known(void)
+{
+    uint8_t table[ANY_ROOM];
+    uint8_t answer[ANY_ROOM];
+    struct question q = step_question(4, 1, 0, 0, 19, 5, 15, table, bytes_of(worked_table, table));
+    DEMAND(bytes_of(worked_step, answer) == TBEXLUM_STEP_ROOM);
+    DEMAND(answers(q, answer, TBEXLUM_STEP_ROOM));
+    DEMAND(answers_step(q, TBEXLUM_FORWARDED, 4, packet_of(19, 1, 4, 4, 14), 1));
+    q.proxy = HUGE_WORD; /* not looked at where there is no proxy */
+    DEMAND(answers_step(q, TBEXLUM_FORWARDED, 4, packet_of(19, 1, 4, 4, 14), 1));
+}
+
+/* A step whose eight words differ: its proxy in the own cell is cleared, since it can't be reached, and another is set. */
+static void step_offsets(void)
+{
+    static const uint8_t table[] = {1, 2, 1, 1, 2, 1, 1, 2}; /* of the servers 12 to 15 */
+    struct question q = with_proxy(step_question(4, 1, 0, 12, 18, 10, 200, table, sizeof table), 14);
+    DEMAND(answers_step(q, TBEXLUM_FORWARDED, 13, packet_of(18, 1, 6, 8, 199), 2));
+}
+
+static void step_delivered(void)
+{
+    static const uint8_t table[8] = {0};
+    struct question q = step_question(4, 1, 0, 19, 19, 0, 0, table, sizeof table);
+    DEMAND(ends(q, TBEXLUM_DELIVERED, 0));
+    q.proxy = HUGE_WORD;
+    DEMAND(ends(q, TBEXLUM_DELIVERED, 0));
+    q.retry = 15;
+    q.ttl = 255;
+    DEMAND(ends(with_proxy(q, 7), TBEXLUM_DELIVERED, 0));
+    DEMAND(ends(with_proxy(q, 19), TBEXLUM_DELIVERED, 0));
+}
+
+static void step_drop_ttl(void)
+{
+    uint8_t table[8];
+    memset(table, TBEXLUM_PORT_UP, sizeof table);
+    DEMAND(ends(step_question(4, 1, 0, 16, 19, 5, 0, table, sizeof table), TBEXLUM_DROP_TTL, 0));
+    DEMAND(ends(with_proxy(step_question(4, 1, 0, 16, 19, 5, 0, table, sizeof table), 16), TBEXLUM_DROP_TTL, 0));
+}
+
+static void step_drop_route(void)
+{
+    static const uint8_t table[8] = {0};
+    DEMAND(ends(step_question(4, 1, 0, 0, 1, 5, 15, table, sizeof table), TBEXLUM_DROP_ROUTE, 0));
+    DEMAND(ends(with_proxy(step_question(4, 1, 0, 0, 1, 5, 15, table, sizeof table), 2), TBEXLUM_DROP_ROUTE, 0));
+}
+
+static void step_drop_retry(void)
+{
+    uint8_t table[40];
+    two_down(table, 2);
+    DEMAND(ends(step_question(4, 1, 0, 0, 19, 1, 15, table, 8), TBEXLUM_DROP_RETRY, 0));
+    DEMAND(ends(step_question(4, 1, 0, 0, 19, 0, 15, table, 8), TBEXLUM_DROP_RETRY, 0));
+    memset(table, 0, sizeof table); /* a proxy in the own cell is cleared by one reroute, and the next is one too many */
+    DEMAND(ends(with_proxy(step_question(4, 1, 0, 0, 19, 2, 15, table, 8), 2), TBEXLUM_DROP_RETRY, 1));
+}
+
+static void step_drop_proxy(void)
+{
+    static const uint8_t table[8] = {0};
+    DEMAND(ends(step_question(4, 1, 0, 0, 19, 5, 15, table, sizeof table), TBEXLUM_DROP_PROXY, 0));
+    DEMAND(ends(with_proxy(step_question(4, 1, 0, 0, 19, 5, 15, table, sizeof table), 2), TBEXLUM_DROP_PROXY, 1));
+}
+
+static void step_codes(void)
+{
+    uint32_t code;
+    for (code = 0; code < 256; code++) {
+        uint8_t table[8];
+        memset(table, (int)code, sizeof table);
+        if (code == TBEXLUM_PORT_UP) {
+            DEMAND(answers_step(step_question(4, 1, 0, 0, 1, 5, 15, table, 8), TBEXLUM_FORWARDED, 1, packet_of(1, 0, 0, 5, 14), 0));
+            DEMAND(answers_step(step_question(4, 1, 0, 3, 19, 5, 15, table, 8), TBEXLUM_FORWARDED, 16, packet_of(19, 0, 0, 5, 14), 0));
+        } else {
+            DEMAND(ends(step_question(4, 1, 0, 0, 1, 5, 15, table, 8), TBEXLUM_DROP_ROUTE, 0));
+            DEMAND(ends(step_question(4, 1, 0, 3, 19, 5, 15, table, 8), TBEXLUM_DROP_PROXY, 0));
+        }
+    }
+}
+
+static void step_flags(void)
+{
+    static const uint32_t flags[] = {1, 2, 256, 65536, 2147483648u, HUGE_WORD};
+    uint8_t table[8];
+    size_t i;
+    memset(table, TBEXLUM_PORT_UP, sizeof table);
+    for (i = 0; i < sizeof flags / sizeof flags[0]; i++) {
+        struct question q = with_proxy(step_question(4, 1, 0, 0, 19, 5, 15, table, sizeof table), 8);
+        q.has_proxy = flags[i];
+        DEMAND(answers_step(q, TBEXLUM_FORWARDED, 1, packet_of(19, 1, 8, 5, 14), 0));
+    }
+}
+
+static void step_halls(void)
+{
+    uint8_t table[LONGEST_TABLE];
+    size_t i;
+    memset(table, TBEXLUM_PORT_UP, sizeof table);
+    for (i = 0; i < NO_HALLS; i++) {
+        struct question q = step_question(no_halls[i][0], no_halls[i][1], no_halls[i][2], 0, 1, 5, 15, table, 8);
+        DEMAND(refuses(q, TBEXLUM_REFUSED_BAD_HALL));
+        q.bytes = NULL;
+        q.length = 0;
+        DEMAND(refuses(q, TBEXLUM_REFUSED_BAD_HALL));
+    }
+}
+
+static void step_lengths(uint32_t n, uint32_t k, uint32_t b)
+{
+    uint8_t table[LONGEST_TABLE + BEYOND];
+    uint32_t t = servers_of(n, k);
+    size_t needed = table_length(n, k, b);
+    size_t length;
+    memset(table, TBEXLUM_PORT_UP, sizeof table);
+    for (length = 0; length <= needed + BEYOND; length++) {
+        struct question q = step_question(n, k, b, t - 1, 0, 5, 15, table, length);
+        if (length == needed) {
+            DEMAND(is_answered(lent(&q, 0)) && is_answered(lent(&q, 1)));
+        } else {
+            DEMAND(refuses_once(q, TBEXLUM_REFUSED_BAD_LENGTH));
+        }
+    }
+    DEMAND(refuses(step_question(n, k, b, 0, 1, 5, 15, NULL, 0), TBEXLUM_REFUSED_BAD_LENGTH));
+    DEMAND(refuses(step_question(n, k, b, 0, 1, 5, 15, inputs.bytes + inputs.size, 0), TBEXLUM_REFUSED_BAD_LENGTH));
+}
+
+static void step_table_lengths(void)
+{
+    each_hall(step_lengths);
+}
+
+static void step_bounds(uint32_t n, uint32_t k, uint32_t b)
+{
+    uint8_t table[LONGEST_TABLE];
+    uint32_t t = servers_of(n, k);
+    size_t length = table_length(n, k, b);
+    memset(table, TBEXLUM_PORT_UP, sizeof table);
+    DEMAND(is_answered(step_question(n, k, b, t - 1, 0, 5, 15, table, length)));
+    DEMAND(is_answered(step_question(n, k, b, 0, t - 1, 5, 15, table, length)));
+    DEMAND(is_answered(with_proxy(step_question(n, k, b, 0, 1, 5, 15, table, length), t - 1)));
+    DEMAND(refuses(step_question(n, k, b, t, 0, 5, 15, table, length), TBEXLUM_REFUSED_BAD_UID));
+    DEMAND(refuses(step_question(n, k, b, 0, t, 5, 15, table, length), TBEXLUM_REFUSED_BAD_UID));
+    DEMAND(refuses(with_proxy(step_question(n, k, b, 0, 1, 5, 15, table, length), t), TBEXLUM_REFUSED_BAD_UID));
+    DEMAND(refuses(step_question(n, k, b, HUGE_WORD, 0, 5, 15, table, length), TBEXLUM_REFUSED_BAD_UID));
+    DEMAND(refuses(step_question(n, k, b, 0, HUGE_WORD, 5, 15, table, length), TBEXLUM_REFUSED_BAD_UID));
+    DEMAND(refuses(with_proxy(step_question(n, k, b, 0, 1, 5, 15, table, length), HUGE_WORD), TBEXLUM_REFUSED_BAD_UID));
+}
+
+static void step_uid_bounds(void)
+{
+    each_hall(step_bounds);
+}
+
+static void step_retry(void)
+{
+    uint8_t table[8];
+    uint32_t retry;
+    memset(table, TBEXLUM_PORT_UP, sizeof table);
+    for (retry = 0; retry < 256; retry++) {
+        struct question q = step_question(4, 1, 0, 0, 19, (uint8_t)retry, 15, table, sizeof table);
+        struct question at_end = step_question(4, 1, 0, 0, 0, (uint8_t)retry, 15, table, sizeof table);
+        if (retry <= TBEXLUM_MOST_RETRY) {
+            DEMAND(answers_step(q, TBEXLUM_FORWARDED, 3, packet_of(19, 0, 0, retry, 14), 0));
+        } else {
+            DEMAND(refuses(q, TBEXLUM_REFUSED_BAD_HEADER));
+            DEMAND(refuses_once(at_end, TBEXLUM_REFUSED_BAD_HEADER));
+        }
+    }
+}
+
+static void step_ttl(void)
+{
+    uint8_t table[8];
+    uint32_t ttl;
+    memset(table, TBEXLUM_PORT_UP, sizeof table);
+    for (ttl = 1; ttl < 256; ttl++) {
+        struct question q = step_question(4, 1, 0, 0, 19, 5, (uint8_t)ttl, table, sizeof table);
+        DEMAND(answers_step(q, TBEXLUM_FORWARDED, 3, packet_of(19, 0, 0, 5, ttl - 1), 0));
+    }
+}
+
+static void step_order(void)
+{
+    uint8_t table[8];
+    struct question q = with_proxy(step_question(9, 4, 5, HUGE_WORD, HUGE_WORD, 255, 255, NULL, 0), HUGE_WORD);
+    memset(table, TBEXLUM_PORT_UP, sizeof table);
+    DEMAND(ask(&q, NULL, 0) == TBEXLUM_REFUSED_BAD_HALL);
+    q.n = 4;
+    q.k = 1;
+    q.b = 0;
+    DEMAND(ask(&q, NULL, 0) == TBEXLUM_REFUSED_BAD_LENGTH);
+    q.bytes = table;
+    q.length = sizeof table;
+    DEMAND(ask(&q, NULL, 0) == TBEXLUM_REFUSED_BAD_UID);
+    q.from = 0;
+    DEMAND(ask(&q, NULL, 0) == TBEXLUM_REFUSED_BAD_UID);
+    q.to = 19;
+    DEMAND(ask(&q, NULL, 0) == TBEXLUM_REFUSED_BAD_UID);
+    q.proxy = 19;
+    DEMAND(ask(&q, NULL, 0) == TBEXLUM_REFUSED_BAD_HEADER);
+    q.retry = 15;
+    DEMAND(ask(&q, NULL, 0) == TBEXLUM_REFUSED_SHORT_ROOM);
+    DEMAND(is_answered(q));
+}
+
+/* Whether steps over a hall table of n = 4, k = 1 take a packet from 0 by these uids, and end like this. */
+static int passes(uint32_t b, const uint8_t *hall_table, uint32_t dst, uint8_t retry, uint8_t ttl, const uint32_t *uids, size_t count,
+                  uint32_t ending, uint32_t reroutes)
+{
+    struct packet p = packet_of(dst, 0, 0, retry, ttl);
+    size_t length = table_length(4, 1, b);
+    uint32_t made = 0;
+    uint32_t uid = 0;
+    size_t i;
+    for (i = 0; i < count; i++) {
+        uint8_t room[TBEXLUM_STEP_ROOM];
+        if (uid != uids[i]) {
+            return 0;
+        }
+        if (tbexlum_step(4, 1, b, uid, p.dst, p.has_proxy, p.proxy, (uint8_t)p.retry, (uint8_t)p.ttl,
+                         hall_table + uid / servers_of(4, b) * length, length, room, sizeof room)
+            != TBEXLUM_ANSWERED) {
+            return 0;
+        }
+        made += word_at(room, TBEXLUM_STEP_REROUTES_AT);
+        if (word_at(room, TBEXLUM_STEP_ENDING_AT) != (i + 1 < count ? TBEXLUM_FORWARDED : ending)) {
+            return 0;
+        }
+        uid = word_at(room, TBEXLUM_STEP_NEXT_AT);
+        p = packet_of(word_at(room, TBEXLUM_STEP_DST_AT), word_at(room, TBEXLUM_STEP_HAS_PROXY_AT), word_at(room, TBEXLUM_STEP_PROXY_AT),
+                      word_at(room, TBEXLUM_STEP_RETRY_AT), word_at(room, TBEXLUM_STEP_TTL_AT));
+    }
+    return made == reroutes;
+}
+
+static void step_journeys(void)
+{
+    static const uint32_t straight[] = {0, 3, 16, 19};
+    static const uint32_t rerouted[] = {0, 4, 7, 17, 19};
+    static const uint32_t in_one_cell[] = {0, 2, 12, 15, 19};
+    uint8_t table[40];
+    memset(table, TBEXLUM_PORT_UP, sizeof table);
+    DEMAND(passes(0, table, 19, 5, 3, straight, 4, TBEXLUM_DELIVERED, 0));
+    DEMAND(passes(0, table, 19, 5, 2, straight, 3, TBEXLUM_DROP_TTL, 0));
+    two_down(table, 2);
+    DEMAND(passes(0, table, 19, 5, 15, rerouted, 5, TBEXLUM_DELIVERED, 1));
+    DEMAND(passes(0, table, 19, 2, 15, rerouted, 5, TBEXLUM_DELIVERED, 1));
+    DEMAND(passes(0, table, 19, 1, 15, rerouted, 1, TBEXLUM_DROP_RETRY, 0));
+    DEMAND(passes(1, table, 19, 5, 15, in_one_cell, 5, TBEXLUM_DELIVERED, 0));
+    two_down(table, 7);
+    DEMAND(passes(0, table, 19, 5, 15, rerouted, 5, TBEXLUM_DELIVERED, 1));
+}
+
+/* ---- Any question ---- */
+
+/* The refusals of each call. */
+static const uint32_t refusals[4][5] = {
+    /* ROUTE */ {TBEXLUM_REFUSED_BAD_HALL, TBEXLUM_REFUSED_BAD_UID, TBEXLUM_REFUSED_SHORT_ROOM},
+    /* READ */
+    {TBEXLUM_REFUSED_SHORT_FRAME, TBEXLUM_REFUSED_BAD_HEADER, TBEXLUM_REFUSED_BAD_CHECKSUM, TBEXLUM_REFUSED_BAD_ADDRESS,
+     TBEXLUM_REFUSED_SHORT_ROOM},
+    /* WRITE */ {TBEXLUM_REFUSED_BAD_HEADER, TBEXLUM_REFUSED_BAD_ADDRESS, TBEXLUM_REFUSED_SHORT_ROOM},
+    /* STEP */
+    {TBEXLUM_REFUSED_BAD_HALL, TBEXLUM_REFUSED_BAD_LENGTH, TBEXLUM_REFUSED_BAD_UID, TBEXLUM_REFUSED_BAD_HEADER,
+     TBEXLUM_REFUSED_SHORT_ROOM},
+};
+
+/* Whether a call may return the number. */
+static int may_return(enum call call, uint32_t number)
+{
+    size_t i;
+    for (i = 0; i < 5; i++) {
+        if (number == refusals[call][i]) {
+            return 1;
+        }
+    }
+    return number == TBEXLUM_ANSWERED;
+}
+
+/* The most bytes that a call writes. */
+static size_t most_written(const struct question *q)
+{
+    switch (q->call) {
+    case ROUTE:
+        return TBEXLUM_ROUTE_ROOM;
+    case READ:
+        return TBEXLUM_READ_ROOM;
+    case WRITE:
+        return q->has_proxy != 0 ? TBEXLUM_HEADER_WITH_PROXY_BYTES : TBEXLUM_HEADER_BYTES;
+    default:
+        return TBEXLUM_STEP_ROOM;
+    }
+}
+
+/* Frames and tables of random questions. */
+static uint8_t random_bytes[LONGEST_TABLE + BEYOND];
+
+/* A question that is sound about as often as not. */
+static struct question random_question(enum call call)
+{
+    int is_sound = random_below(2) == 0;
+    int has_hall = call == ROUTE || call == STEP;
+    struct question q = no_question(call);
+    uint32_t limit;
+    size_t i;
+    q.n = is_sound ? 2 + random_below(7) : random_number(10);
+    q.k = is_sound ? random_below(4) : random_number(5);
+    q.b = is_sound ? random_below(q.k == 0 ? 1 : 2) : random_number(3);
+    limit = has_hall ? servers_of(q.n, is_sound ? q.k : 0) : 2147483648u;
+    q.from = is_sound ? random_below(limit) : random_number(50);
+    q.to = is_sound ? random_below(limit) : random_number(50);
+    q.has_proxy = random_below(2) == 0 ? 0 : random_number(3);
+    q.proxy = is_sound ? random_below(limit) : random_number(50);
+    q.retry = (uint8_t)(is_sound ? random_below(16) : random_number(18));
+    q.ttl = (uint8_t)random_number(20);
+    q.protocol = (uint8_t)random_word();
+    q.payload_length = (uint16_t)(is_sound ? random_below(40) : random_number(40));
+    q.identification = random_word();
+    if (call == STEP) {
+        q.bytes = random_bytes;
+        q.length = is_sound ? table_length(q.n, q.k, q.b) : random_below(LONGEST_TABLE + BEYOND + 1);
+        for (i = 0; i < q.length; i++) {
+            random_bytes[i] = random_below(4) == 0 ? (uint8_t)random_word() : (uint8_t)TBEXLUM_PORT_UP;
+        }
+    }
+    if (call == READ) {
+        q.bytes = random_bytes;
+        q.length = header_of(&q, random_bytes) + q.payload_length + random_below(BEYOND);
+        if (!is_sound) {
+            random_bytes[random_below(24)] = (uint8_t)random_word();
+            q.length = random_below(64);
+        }
+    }
+    return q;
+}
+
+static void any_question(void)
+{
+    static const enum call calls[] = {ROUTE, READ, WRITE, STEP};
+    uint32_t answered[4] = {0, 0, 0, 0};
+    uint32_t i;
+    for (i = 0; i < RANDOM_QUESTIONS; i++) {
+        struct question asked = random_question(calls[i % 4]);
+        int back = (int)random_below(2);
+        struct question q = lent(&asked, back);
+        const uint8_t *paint = paints[random_below(2)];
+        size_t length = random_below(TBEXLUM_ROUTE_ROOM + BEYOND + 1);
+        uint8_t *room = part(&rooms, back, length);
+        size_t most = most_written(&q);
+        uint32_t number;
+        memcpy(rooms.bytes, paint, rooms.size);
+        number = ask(&q, room, length);
+        DEMAND(may_return(q.call, number));
+        DEMAND(is_kept(paint, room, number != TBEXLUM_ANSWERED ? 0 : most < length ? most : length));
+        DEMAND(q.length == 0 || memcmp(q.bytes, asked.bytes, q.length) == 0);
+        answered[i % 4] += number == TBEXLUM_ANSWERED;
+    }
+    for (i = 0; i < 4; i++) {
+        DEMAND(answered[i] > RANDOM_QUESTIONS / 80); /* the questions are worth asking */
+    }
+}
+
+/* ---- Stack: calls on a painted stack, whose lowest changed byte tells how far they came ----
+ * Not under the address sanitizer, which does not follow a change of stacks. The library's own frames are the same in every build. */
+#ifndef __SANITIZE_ADDRESS__
+
+#define DEEP_STACK 65536u
+
+static uint8_t deep_stack[DEEP_STACK];
+static ucontext_t outside;
+static ucontext_t inside;
+static const struct question *deep_question;
+
+static void ask_on_deep_stack(void)
+{
+    static uint8_t room[ANY_ROOM];
+    ask(deep_question, room, sizeof room);
+}
+
+static void ask_deep(const struct question *q)
+{
+    deep_question = q;
+    getcontext(&inside);
+    inside.uc_stack.ss_sp = deep_stack;
+    inside.uc_stack.ss_size = sizeof deep_stack;
+    inside.uc_link = &outside;
+    makecontext(&inside, ask_on_deep_stack, 0);
+    swapcontext(&outside, &inside);
+}
+
+/* The bytes of stack that were touched. */
+static size_t depth(uint8_t paint)
+{
+    size_t i = 0;
+    while (i < sizeof deep_stack && deep_stack[i] == paint) {
+        i++;
+    }
+    return sizeof deep_stack - i;
+}
+
+/* Steps that reroute twice, and then search the local cell for a server that is not self: the deepest there are. */
+static void ask_deep_steps(void)
+{
+    static const uint8_t small[] = {1, 2, 1, 1, 2, 1, 1, 2};
+    static uint8_t large[LONGEST_TABLE];
+    struct question q = with_proxy(step_question(4, 1, 0, 12, 18, 10, 200, small, sizeof small), 14);
+    uint32_t server;
+    DEMAND(answers_step(q, TBEXLUM_FORWARDED, 13, packet_of(18, 1, 6, 8, 199), 2));
+    ask_deep(&q);
+    for (server = 0; server < 72; server++) {
+        uint8_t is_proxy = server == 5;
+        large[4 * server] = is_proxy ? 2 : 1;
+        large[4 * server + 1] = is_proxy ? 2 : 1;
+        large[4 * server + 2] = 2;
+        large[4 * server + 3] = server == 70 ? 1 : 2;
+    }
+    q = with_proxy(step_question(8, 3, 1, 0, 27630791u, 15, 255, large, sizeof large), 5);
+    DEMAND(answers_step(q, TBEXLUM_FORWARDED, 7, packet_of(27630791u, 1, 373176, 13, 254), 2));
+    ask_deep(&q);
+}
+
+/* The stack that calls take, with that of the function that makes them: the most over random questions and the deepest steps. */
+static size_t stack_of(enum call call)
+{
+    static const uint8_t stack_paints[] = {0xA5, 0x5A};
+    size_t most = 0;
+    size_t i;
+    uint32_t asked;
+    for (i = 0; i < 2; i++) {
+        memset(deep_stack, stack_paints[i], sizeof deep_stack);
+        for (asked = 0; asked < RANDOM_QUESTIONS; asked++) {
+            struct question q = random_question(call);
+            ask_deep(&q);
+        }
+        if (call == STEP) {
+            ask_deep_steps();
+        }
+        if (depth(stack_paints[i]) > most) {
+            most = depth(stack_paints[i]);
+        }
+    }
+    return most;
+}
+
+static void stack_fits(void)
+{
+    size_t route = stack_of(ROUTE);
+    size_t read = stack_of(READ);
+    size_t write = stack_of(WRITE);
+    size_t step = stack_of(STEP);
+    printf("bytes of stack: route %zu, read_header %zu, write_header %zu, step %zu\n", route, read, write, step);
+    DEMAND(route <= ROUTE_STACK);
+    DEMAND(read <= HEADER_STACK);
+    DEMAND(write <= HEADER_STACK);
+    DEMAND(step <= STEP_STACK);
+}
+#endif
+
+int main(int count, char **words)
+{
+    setvbuf(stdout, NULL, _IOLBF, BUFSIZ); /* so that a test that kills the program leaves the lines before it */
+    seed = count > 1 ? strtoull(words[1], NULL, 10) : 20240229u;
+    printf("seed %" PRIu64 "\n", seed);
+    seed = (seed + 1) * 0x9E3779B97F4A7C15u | 1u;
+    prepare_pages();
+
+    run("route: 5 to 11 of n = 2, k = 2 is 5 4 1 0 6 7 10 11, in rooms of every length", route_known);
+    run("route: from a server to itself is that server", route_itself);
+    run("route: the longest has 16 uids and fills the room that fits every route", route_longest);
+    run("route: starts with x and ends at the first word that is y", route_ends);
+    run("route: numbers that make no hall are refused by 1", route_halls);
+    run("route: in every hall, uids from t(k) on are refused by 2", route_uid_bounds);
+    run("route: refusals come in the order 1, 2, 6", route_order);
+
+    run("write: the known header of 20 bytes, in rooms of every length", write_known);
+    run("write: the known header of 24 bytes, for every flag but 0", write_known_proxy);
+    run("write: a retry above 15 is refused by 8", write_retry);
+    run("write: addresses of the wrong kind are refused by 11", write_addresses);
+    run("write: refusals come in the order 8, 11, 6", write_order);
+
+    run("read: the known header, in rooms of every length, with and without padding", read_known);
+    run("read: each field stands at its offset, and the payload must be there", read_offsets);
+    run("read: frames of every length below their header are refused by 7", read_short);
+    run("read: of all first bytes and flags, all but two are refused by 8", read_headers);
+    run("read: every other checksum is refused by 9, and every turned bit is refused", read_checksums);
+    run("read: FFFF where 0000 is due is refused by 9", read_zero_due);
+    run("read: addresses of the wrong kind are refused by 11", read_addresses);
+    run("read: refusals come in the order 7, 8, 7, 9, 11, 7, 6", read_order);
+    run("write and read: headers are those of the layout, and read back to their fields", header_both_ways);
+
+    run("step: the known step, in rooms of every length", step_known);
+    run("step: each word stands at its offset, a proxy cleared and another set", step_offsets);
+    run("step: delivered, the packet as it came", step_delivered);
+    run("step: drop 1, the TTL is 0", step_drop_ttl);
+    run("step: drop 2, no route", step_drop_route);
+    run("step: drop 3, the retry is spent", step_drop_retry);
+    run("step: drop 4, no proxy", step_drop_proxy);
+    run("step: of all 256 codes only 1 is up", step_codes);
+    run("step: every flag but 0 is a proxy", step_flags);
+    run("step: numbers that make no hall are refused by 1", step_halls);
+    run("step: in every hall, tables of every other length are refused by 4", step_table_lengths);
+    run("step: in every hall, uids from t(k) on are refused by 2", step_uid_bounds);
+    run("step: a retry above 15 is refused by 8, at the destination too", step_retry);
+    run("step: every TTL above 0 is lowered by one", step_ttl);
+    run("step: refusals come in the order 1, 4, 2, 8, 6", step_order);
+    run("step: the known journeys, step by step", step_journeys);
+
+    run("all: any question gets a number of its call, and only the answer's bytes change", any_question);
+#ifndef __SANITIZE_ADDRESS__
+    run("all: the stack stays within what docs/DRIVER.md says", stack_fits);
+#endif
+    printf("%d passed, %d failed\n", passed, failed);
+    return failed == 0 ? EXIT_SUCCESS : EXIT_FAILURE;
 }

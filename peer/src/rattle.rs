@@ -4,6 +4,7 @@
 //! arguments to Rattle, a pointer and a length, and is declared as two. A Rust slice would be one: where a single register is left
 //! for it, it goes to the stack whole, and Rattle would look for its pointer in that register.
 
+use peer::forward::Packet;
 use peer::frame::Fields;
 use peer::hall::{Hall, LEVELS};
 
@@ -49,6 +50,36 @@ mod foreign {
             level: u32,
             p: u32,
             q: u32,
+            room: *mut u32,
+            length: usize,
+        ) -> u32;
+        pub fn calls_journey(
+            n: u32,
+            k: u32,
+            b: u32,
+            source: u32,
+            dst: u32,
+            has_proxy: u32,
+            proxy: u32,
+            retry: u8,
+            ttl: u8,
+            table: *const u8,
+            codes: usize,
+            room: *mut u32,
+            length: usize,
+        ) -> u32;
+        pub fn calls_journey_counts(
+            n: u32,
+            k: u32,
+            b: u32,
+            source: u32,
+            dst: u32,
+            has_proxy: u32,
+            proxy: u32,
+            retry: u8,
+            ttl: u8,
+            table: *const u8,
+            codes: usize,
             room: *mut u32,
             length: usize,
         ) -> u32;
@@ -130,6 +161,21 @@ mod foreign {
             b: u32,
             x: u32,
             y: u32,
+            room: *mut u8,
+            length: usize,
+        ) -> u32;
+        pub fn tbexlum_step(
+            n: u32,
+            k: u32,
+            b: u32,
+            uid: u32,
+            dst: u32,
+            has_proxy: u32,
+            proxy: u32,
+            retry: u8,
+            ttl: u8,
+            table: *const u8,
+            codes: usize,
             room: *mut u8,
             length: usize,
         ) -> u32;
@@ -317,6 +363,79 @@ pub fn broadcast(
     unsafe {
         foreign::calls_broadcast(
             h.n, h.k, h.b, codes, count, source, scope, first, servers, start, length,
+        )
+    }
+}
+
+/// One forwarding step in the driver's form; the number that tells of a proxy stands beside the packet.
+#[inline]
+pub fn step(h: Hall, uid: u32, p: Packet, flag: u32, table: &[u8], room: &mut [u8]) -> u32 {
+    unsafe {
+        foreign::tbexlum_step(
+            h.n,
+            h.k,
+            h.b,
+            uid,
+            p.dst,
+            flag,
+            p.proxy,
+            p.retry,
+            p.ttl,
+            table.as_ptr(),
+            table.len(),
+            room.as_mut_ptr(),
+            room.len(),
+        )
+    }
+}
+
+/// The uids that a journey passes.
+#[inline]
+pub fn journey(h: Hall, source: u32, p: Packet, flag: u32, table: &[u8], room: &mut [u32]) -> u32 {
+    unsafe {
+        foreign::calls_journey(
+            h.n,
+            h.k,
+            h.b,
+            source,
+            p.dst,
+            flag,
+            p.proxy,
+            p.retry,
+            p.ttl,
+            table.as_ptr(),
+            table.len(),
+            room.as_mut_ptr(),
+            room.len(),
+        )
+    }
+}
+
+/// The ending, the links and the reroutes of a journey.
+#[inline]
+pub fn journey_counts(
+    h: Hall,
+    source: u32,
+    p: Packet,
+    flag: u32,
+    table: &[u8],
+    room: &mut [u32],
+) -> u32 {
+    unsafe {
+        foreign::calls_journey_counts(
+            h.n,
+            h.k,
+            h.b,
+            source,
+            p.dst,
+            flag,
+            p.proxy,
+            p.retry,
+            p.ttl,
+            table.as_ptr(),
+            table.len(),
+            room.as_mut_ptr(),
+            room.len(),
         )
     }
 }

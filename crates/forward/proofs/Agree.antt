@@ -1,14 +1,14 @@
 -- A step and a journey read nothing of a table but where its code is 1: tables with code 1 at the same places give the same links, so the
 -- same distances, next hops and ports, and a step sees no more.
-use mathlib.Core.Path.{_≡_, refl, sym, _∙_, ap, fun-ext}
-use mathlib.Core.Bool.{Bool, true, false}
+use mathlib.Core.Path.{_≡_, _∙_, ap, fun-ext}
+use mathlib.Core.Bool.{Bool}
 use mathlib.Core.List.{List}
 use Prim.Native.Nat.{ℕ, zero, suc}
 use lib.Dec.{eqb}
 use lib.ListN.{getD}
 use Rattle.combine.specs.Tests.{pick}
 use Rattle.hall.specs.declared.Hall.{Hall}
-use Rattle.ports.specs.Codes.{up, part, SameUps}
+use Rattle.ports.specs.Codes.{part, SameUps}
 use Rattle.ports.proofs.Tables.{up-agrees}
 use Rattle.ports.proofs.Links.{joined-agrees}
 use Rattle.ports.proofs.Runs.{run-agrees}

@@ -1,7 +1,8 @@
 -- The search for a proxy, place by place and level by level: the best so far with its distance is all that a loop has to keep.
 use mathlib.Core.Path.{_≡_, refl, sym, _∙_, ap}
 use mathlib.Core.Bool.{Bool, true, false, not}
-use mathlib.Core.List.{List, [], _∷_}
+use mathlib.Core.List.{List}
+use mathlib.Core.Logic.{⊎-elim}
 use Prim.Native.Nat.{ℕ, zero, suc, _+_, _-_, _<_, _≤_}
 use native.Mathlib.Numerals.{add-one}
 use native.Mathlib.Omega.{arith}
@@ -19,13 +20,13 @@ use Rattle.local.specs.declared.Distances.{Distances}
 use Rattle.local.specs.Local.{none, cellSize, placeOf, recordFrom, distance}
 use Rattle.local.specs.Answers.{distancesOf}
 use Rattle.local.proofs.Linked.{record-at}
+use Rattle.local.proofs.Distance.{local-bounded}
 use Rattle.local.proofs.Sizes.{size-fits, place-fits}
 use Rattle.forward.specs.declared.Candidate.{Candidate}
 use Rattle.forward.specs.declared.Candidate.the-variants.{At, Nothing}
 use Rattle.forward.specs.Seen.{Seen, seen}
 use Rattle.forward.specs.Proxies.{isCandidate, nearerOf, bestBelow, orElse, firstFound, choice}
 use Rattle.forward.specs.Inside.{Here}
-use Rattle.forward.proofs.CodeWays.{distance-most}
 
 -- the distance of the best so far, none where there is none
 abbrev pub leastOf : (ℕ → ℕ) → Candidate → ℕ
@@ -124,4 +125,6 @@ module _ (h : Hall) (table : List ℕ) (me : ℕ) (a : Here h table me) (from : 
   pub distance-small : (place : ℕ) → place < from .count → distance h table (placeOf h me) place ≤ none
   distance-small place l =
       let v = valid-known h (a .sound) in
-      distance-most h table v (placeOf h me) place (place-fits h v me) (omega (arith, count-is))
+      let f = size-fits h v in
+      ⊎-elim (λ (q : distance h table (placeOf h me) place ≡ none). omega arith) (λ (q : distance h table (placeOf h me) place < cellSize h). omega arith)
+      (local-bounded h table v (placeOf h me) place (place-fits h v me) (omega (arith, count-is)))

@@ -2,29 +2,25 @@
 use mathlib.Core.Path.{_≡_, refl, sym, _∙_, ap}
 use mathlib.Core.Bool.{Bool, true, false, not}
 use mathlib.Core.List.{List}
-use Prim.Native.Nat.{ℕ, zero, suc, _+_, _-_, _*_, _/_, _%_, _≤_, _<_}
+use Prim.Native.Nat.{ℕ, zero, suc, _+_, _-_, _%_, _≤_, _<_}
 use native.Mathlib.Nat.{div-add-mod'}
 use native.Mathlib.Numerals.{sub-one}
 use native.Mathlib.Omega.{arith}
-use lib.Arith.{digits-div}
-use lib.Dec.{eqb, ltb, leb}
-use borrow.Author.Tests.{eqb-true, eq-eqb, ne-eqb, lt-ltb, le-leb}
+use lib.Dec.{eqb, ltb}
+use borrow.Author.Tests.{eqb-false, eq-eqb, ne-eqb, lt-ltb, le-leb, not-true}
 use Rattle.combine.specs.Tests.{pick, both}
-use Rattle.combine.proofs.Tests.{cases, never, pick-holds, both-false}
+use Rattle.combine.proofs.Tests.{cases, never, both-left, both-right}
 use Rattle.hall.specs.declared.Hall.{Hall}
 use Rattle.hall.specs.declared.Neighbour.{Neighbour}
 use Rattle.hall.specs.Refusals.{refusal}
+use Rattle.hall.specs.Cells.{cell, same, neighbour}
+use Rattle.hall.specs.Halls.{servers, largest}
 use Rattle.hall.specs.Answers.{neighbourOf}
-use Rattle.hall.specs.Cells.{t, cell, same, neighbour}
-use Rattle.hall.specs.Halls.{valid, servers}
 use Rattle.hall.proofs.Growth.{Valid, valid-known, uid-fits}
-use Rattle.hall.proofs.Cells.{eq-same, same-sym, same-trans, same-mono, same-left, apart-mono, neighbour-leaves}
-use Rattle.hall.proofs.Links.{in-hall, neighbour-in}
 use Rattle.route.specs.declared.Crossing.{Crossing}
 use Rattle.route.specs.declared.Crossing.the-variants.{Link, Nothing}
 use Rattle.route.specs.Answers.{firstLink}
 use Rattle.local.specs.Local.{none, cellSize, placeOf, firstOf}
-use Rattle.local.proofs.Sizes.{size-pos}
 use Rattle.forward.specs.declared.Packet.{Packet}
 use Rattle.forward.specs.declared.Step.{Step}
 use Rattle.forward.specs.declared.Way.{Way}
@@ -32,12 +28,16 @@ use Rattle.forward.specs.declared.Way.the-variants.{To, Closed, Unreache
 use Rattle.forward.specs.declared.Candidate.{Candidate}
 use Rattle.forward.specs.declared.Candidate.the-variants as candidate
 use Rattle.forward.specs.Packets.{drop-ttl, drop-route, drop-retry, drop-proxy, delivered, cleared, tidied, proxied, retried, isArrived, goal, sent, ended, counted}
-use Rattle.forward.specs.Seen.{Seen, seen}
-use Rattle.forward.specs.Proxies.{choice}
-use Rattle.forward.specs.Steps.{Reroute, reachable, across, from4, firstLevel, rerouted, setProxy, rerouteOn, stepFrom, stepOn}
+use Rattle.forward.specs.Seen.{Seen}
+use Rattle.forward.specs.Proxies.{isCandidate, choice}
+use Rattle.forward.specs.Steps.{Reroute, reachable, across, firstLevel, rerouted, setProxy, rerouteOn, stepFrom, stepOn}
 use Rattle.forward.specs.Inside.{Here, Ahead, Sound, Standing, Stopped, Placed, wayTo, wayOver}
+use Rattle.forward.proofs.Passes.{step-passes}
+use Rattle.forward.proofs.Steps.{last-pass}
 use Rattle.forward.proofs.Chosen.{choice-at}
-use Rattle.forward.proofs.CodeWays.{FirstLink, link-known}
+use Rattle.forward.proofs.Links as ahead
+use Rattle.forward.proofs.Links.{place-in}
+use Rattle.forward.proofs.Hops.{Suits, proxy-in-hall, proxy-away}
 
 module _ (h : Hall) (s : Seen) (me : ℕ) (came : Packet) where
   -- 4 to 10 by the way on
@@ -124,61 +124,10 @@ module _ (h : Hall) (s : Seen) (me : ℕ) (came : Packet) where
           ∙ sym (unfolded ∙ rw f)
 
   -- a step has no more reroutes than the retry
-  way-few : (reroute : Reroute) (link : Crossing) (p : Packet) (arrived : Bool) (w : Way) (n : ℕ) → reroute link p arrived .reroutes ≤ n
-      → onWay reroute link p arrived w .reroutes ≤ n
-  way-few reroute link p arrived (To u) n k = omega arith
-  way-few reroute link p arrived Closed n k = k
-  way-few reroute link p arrived Unreached n k =
-      pick-holds (λ (o : Step). o .reroutes ≤ n) (same (h .n) (h .b) me (came .dst)) (ended drop-route came) (reroute link p arrived) (omega arith) k
-
-  from-few : (reroute : Reroute) (p : Packet) (arrived : Bool) (n : ℕ) → ((link : Crossing) → reroute link p arrived .reroutes ≤ n)
-      → from4 h s me came reroute p arrived .reroutes ≤ n
-  from-few reroute p arrived n k =
-      rw (across-way reroute p arrived (firstLink h me (goal p)))
-      (way-few reroute (firstLink h me (goal p)) p arrived (wayOver h s me (goal p) (firstLink h me (goal p))) n (k (firstLink h me (goal p))))
-
-  few : (n : ℕ) (link : Crossing) (p : Packet) (arrived : Bool) → rerouteOn h s me came n link p arrived .reroutes ≤ n
-  unfolding rerouteOn
-  few zero link p arrived = omega arith
-  few (suc zero) link p arrived = omega arith
-  few (suc (suc f)) Nothing p arrived =
-      omega (arith, from-few (rerouteOn h s me came (suc f)) (cleared (retried (suc f) p)) false (suc f) (λ link. few (suc f) link (cleared (retried (suc f) p)) false))
-  few (suc (suc f)) (Link n1 n2 m) p arrived = go (λ r link. few (suc f) link r false) (choice h s (placeOf h me) (firstLevel h s me came m arrived))
-    where
-      go : ((r : Packet) (link : Crossing) → rerouteOn h s me came (suc f) link r false .reroutes ≤ suc f)
-          → (c : Candidate) → setProxy h s me came (rerouteOn h s me came (suc f)) (retried (suc f) p) c .reroutes ≤ suc (suc f)
-      go ih candidate.Nothing = omega arith
-      go ih (candidate.At p1 i) =
-          let r : Packet = proxied (neighbour (h .n) (i - 1) (firstOf h me + p1)) (retried (suc f) p) in
-          omega (arith, from-few (rerouteOn h s me came (suc f)) r false (suc f) (ih r))
-
   pub step-few : (o : Step) (p : Packet) (arrived : Bool) → o ≡ stepFrom h s me came p arrived → o .reroutes ≤ p .retry
-  unfolding stepFrom
-  step-few o p arrived e = rw e (from-few (rerouteOn h s me came (p .retry)) p arrived (p .retry) (λ link. few (p .retry) link p arrived))
-
--- the server at a place of the cell around another
-module _ (h : Hall) (v : Valid h) (me place : ℕ) (inside : place < cellSize h) where
-  pub first-same : same (h .n) (h .b) me (firstOf h me + place) ≡ true
-  unfolding firstOf cellSize cell
-  first-same = eq-same (h .n) (h .b) me (me / t (h .n) (h .b) * t (h .n) (h .b) + place) (sym (digits-div (me / t (h .n) (h .b)) inside))
-
-  pub first-fits : me < servers h → firstOf h me + place < servers h
-  unfolding servers
-  first-fits l = in-hall (h .n) (omega (arith, v .n-low)) (h .k) me (firstOf h me + place) l (same-mono (h .n) {i = h .b} {j = h .k} me (firstOf h me + place) (v .b-low) first-same)
-
-  -- its neighbour above b is a server of the hall in another cell
-  module _ (i : ℕ) (low : h .b < i) (high : i ≤ h .k) where
-    pub proxy-fits : me < servers h → neighbour (h .n) (i - 1) (firstOf h me + place) < servers h
-    unfolding servers
-    proxy-fits l = neighbour-in (h .n) (omega (arith, v .n-low)) (i - 1) (h .k) (firstOf h me + place) (omega arith) (first-fits l)
-
-    pub proxy-apart : neighbour (h .n) (i - 1) (firstOf h me + place) ≡ me → ⊥
-    proxy-apart e =
-        let u : ℕ = firstOf h me + place in
-        let a : same (h .n) (i - 1) u (neighbour (h .n) (i - 1) u) ≡ false = neighbour-leaves (h .n) (omega (arith, v .n-low)) (i - 1) u in
-        let b : same (h .n) (h .b) u (neighbour (h .n) (i - 1) u) ≡ false = apart-mono (h .n) {i = h .b} {j = i - 1} u (neighbour (h .n) (i - 1) u) (omega arith) a in
-        let c : same (h .n) (h .b) u me ≡ false = rw e at b in
-        never (same-sym (h .n) (h .b) me u first-same) c
+  step-few o p arrived e =
+      let r = last-pass h s me came (λ (q : Packet). Unit {0}) (λ q f w k. tt) (λ q f n1 n2 m p1 i d w g k. tt) (step-passes h s me came p arrived) tt in
+      rw e (omega (arith, r .lowered))
 
 -- the first uid of a cell as the code works it out, and the neighbour that a new proxy is
 pub first-of : (h : Hall) (me count : ℕ) → count ≡ cellSize h → me - me % count ≡ firstOf h me
@@ -186,16 +135,16 @@ unfolding firstOf cell cellSize
 first-of h me count e = rw (← e) (omega (arith, div-add-mod' me count))
 
 module _ (h : Hall) (me place level : ℕ) (a : Placed h me place level) (count : ℕ) (e : count ≡ cellSize h) where
-  pub uid-fits-in : me - me % count + place < 27630792
+  pub uid-fits-in : me - me % count + place < largest
   uid-fits-in =
       let v = valid-known h (a .sound) in
-      rw (first-of h me count e) (uid-fits h v (firstOf h me + place) (first-fits h v me place (a .inside) (a .fits)))
+      rw (first-of h me count e) (uid-fits h v (firstOf h me + place) (place-in h v me place (a .fits) (a .inside)))
 
   pub proxy-is : (r : Neighbour) → r ≡ neighbourOf h (me - me % count + place) level → r .uid ≡ neighbour (h .n) (level - 1) (firstOf h me + place)
   unfolding refusal
   proxy-is r q =
       let v = valid-known h (a .sound) in
-      let l = first-fits h v me place (a .inside) (a .fits) in
+      let l = place-in h v me place (a .fits) (a .inside) in
       rw (q, first-of h me count e, a .sound, lt-ltb (firstOf h me + place) (servers h) l, le-leb 1 level (a .low), le-leb level (h .k) (a .high))
 
 module _ (h : Hall) (table : List ℕ) (me : ℕ) (p : Packet) where
@@ -217,13 +166,11 @@ module _ (h : Hall) (table : List ℕ) (me : ℕ) (p : Packet) where
     v : Valid h
     v = valid-known h (stand .here .sound)
 
-    link-of : (n1 n2 m : ℕ) → link ≡ Link n1 n2 m → FirstLink h me n1 n2 m
-    link-of n1 n2 m e =
-        let b = stands-ahead stand (goal p) link refl (a .first) in
-        link-known h me (goal p) (b .here .sound) (b .here .fits) (b .fits) n1 n2 m (sym (a .first) ∙ e)
+    link-of : {n1 n2 m : ℕ} → link ≡ Link n1 n2 m → ahead.Ahead h me n1 n2 m
+    link-of e = ahead.link-ahead h (stand .here .sound) me (goal p) (stand .here .fits) (goal-fits stand) (sym (a .first) ∙ e)
 
     pub level-low : (n1 n2 m : ℕ) → link ≡ Link n1 n2 m → m ≤ 3
-    level-low n1 n2 m e = omega (arith, link-of n1 n2 m e .in-hall, v .k-high)
+    level-low n1 n2 m e = let k = link-of e in omega (arith, k .level, k .high, v .k-high)
 
     -- without its proxy it still stands there
     pub stands-cleared : (q : Packet) → q ≡ retried (p .retry - 1) p → (r : Packet) → r ≡ cleared q → Standing h table me r
@@ -242,30 +189,40 @@ module _ (h : Hall) (table : List ℕ) (me : ℕ) (p : Packet) where
 
     module _ (n1 n2 m : ℕ) (e : link ≡ Link n1 n2 m) (arrived : Bool) (level : ℕ) (lv : level ≡ m + pick (both arrived (ltb m (h .k))) 1 0)
         (s : Seen) (found : Candidate) (c : found ≡ choice h s (placeOf h me) level) (p1 i : ℕ) (f : found ≡ candidate.At p1 i) where
-      at-level : (h .b < i) × (i ≤ h .k) × (p1 < cellSize h)
-      at-level =
+      suits : Suits h s me p1 i
+      unfolding isCandidate
+      suits =
           let k = choice-at h s (placeOf h me) level (sym c ∙ f) in
-          let b = link-of n1 n2 m e .above-b in
-          (omega (arith, k .from), k .to, k .nearest .below)
+          let l = link-of e in
+          let t : Bool = not (eqb (s .distance (placeOf h me) p1) none) in
+          let w : both t (s .usable i p1) ≡ true = k .nearest .candidate in
+          record {
+            below = k .nearest .below;
+            low = omega (arith, k .from, l .level, l .low);
+            high = k .to;
+            at-distance = eqb-false (s .distance (placeOf h me) p1) none (not-true (eqb (s .distance (placeOf h me) p1) none) (both-left t (s .usable i p1) w));
+            usable = both-right t (s .usable i p1) w;
+          }
 
       pub placed : Placed h me p1 i
-      placed = record { sound = stand .here .sound; fits = stand .here .fits; inside = at-level .2; low = omega (arith, at-level .0); high = at-level .1 }
+      placed = record { sound = stand .here .sound; fits = stand .here .fits; inside = suits .below; low = omega (arith, suits .low); high = suits .high }
 
       -- and with a new one
       pub stands-proxied : (q : Packet) → q ≡ retried (p .retry - 1) p → (proxy : ℕ) → proxy ≡ neighbour (h .n) (i - 1) (firstOf h me + p1)
           → (r : Packet) → r ≡ proxied proxy q → Standing h table me r
       unfolding goal
       stands-proxied q low proxy x r y =
-          let b = at-level in
+          let b = stand .here .sound in
+          let far : me ≡ p .dst → ⊥ = λ z. stand .dst-apart (sym z) in
           rw (y, low) (record {
             here = stand .here;
             packet = record {
               dst-fits = stand .packet .dst-fits;
-              proxy-fits = λ z. rw x (proxy-fits h v me p1 (b .2) i (b .0) (b .1) (stand .here .fits));
+              proxy-fits = λ z. rw x (proxy-in-hall h s me p b (stand .here .fits) far p1 i suits);
               retry-fits = omega (arith, stand .packet .retry-fits);
             };
             dst-apart = stand .dst-apart;
-            goal-apart = λ z. proxy-apart h v me p1 (b .2) i (b .0) (b .1) (sym x ∙ z);
+            goal-apart = λ z. proxy-away h s me p b (stand .here .fits) far p1 i suits (sym (sym x ∙ z));
             alive = stand .alive;
           })
 

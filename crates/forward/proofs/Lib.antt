@@ -1,4 +1,5 @@
--- The laws.
+-- What the laws speak of, and the laws.
+pub mod Ways
 pub mod Passes
 pub mod Chosen
 pub mod Steps

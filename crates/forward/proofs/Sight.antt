@@ -1,12 +1,12 @@
 -- What a step sees of a table is what the laws of hops and reroutes ask: the local next hop is over a usable link of the cell, and distances
 -- are the same both ways.
-use mathlib.Core.Path.{_≡_, refl, sym, _∙_, ap}
-use mathlib.Core.Bool.{Bool, true, false}
+use mathlib.Core.Path.{_≡_, sym, _∙_}
+use mathlib.Core.Bool.{true}
 use mathlib.Core.List.{List}
-use Prim.Native.Nat.{ℕ, _<_}
+use Prim.Native.Nat.{ℕ}
 use Rattle.hall.specs.declared.Hall.{Hall}
 use Rattle.hall.proofs.Growth.{Valid}
-use Rattle.local.specs.Local.{none, cellSize, linked}
+use Rattle.local.specs.Local.{linked}
 use Rattle.local.proofs.Distance.{local-symmetric}
 use Rattle.local.proofs.Hops.{hop-is, hop-there}
 use Rattle.forward.specs.Seen.{seen}

@@ -1,27 +1,24 @@
 -- A journey, step by step: each step that forwards lowers the TTL by one, so the journey's recursion on the TTL is its steps in turn, and
 -- what holds of each step adds up.
-use mathlib.Core.Path.{_≡_, refl, sym, _∙_, ap}
-use mathlib.Core.Bool.{Bool, true, false, not}
-use mathlib.Core.List.{List, [], _∷_, _++_}
+use mathlib.Core.Path.{_≡_, refl, _∙_, ap}
+use mathlib.Core.List.{List, [], _∷_}
 use Prim.Native.Nat.{ℕ, zero, suc, _+_, _-_, _≤_, _<_}
 use native.Mathlib.Omega.{arith}
 use lib.Dec.{eqb}
 use lib.ListN.{length}
 use borrow.Author.Tests.{eqb-true, eqb-false}
-use Rattle.combine.specs.Tests.{pick}
 use Rattle.combine.proofs.Tests.{pick-holds}
 use Rattle.hall.specs.declared.Hall.{Hall}
 use Rattle.ports.specs.Codes.{part}
 use Rattle.route.specs.Routes.{hops}
 use Rattle.route.specs.Walks.{Each}
 use Rattle.forward.specs.declared.Packet.{Packet}
-use Rattle.forward.specs.declared.Step.{Step}
-use Rattle.forward.specs.Packets.{forwarded, drop-ttl, drop-route, drop-retry, drop-proxy, delivered, cleared, tidied}
+use Rattle.forward.specs.Packets.{forwarded, cleared, tidied}
 use Rattle.forward.specs.Seen.{seen}
-use Rattle.forward.specs.Steps.{stepOn}
 use Rattle.forward.specs.Journeys.{Trip, stepAt, endsAt, goesOn, tripOn, trip}
 use Rattle.forward.proofs.Passes.{pick-ways}
-use Rattle.forward.proofs.Steps.{Ending, is-forwarded, is-delivered, is-drop-ttl, is-drop-route, is-drop-retry, is-drop-proxy, SentOn, step-ending, sent-on, reroutes-few, delivered-there, drop-ttl-there}
+use Rattle.forward.proofs.Ways.{Ending, is-forwarded, is-delivered, is-drop-ttl, is-drop-route, is-drop-retry, is-drop-proxy, SentOn, Final, final-delivered, final-drop-ttl, final-drop-route, final-drop-retry, final-drop-proxy, Travels, last-step, one-step, LastStep}
+use Rattle.forward.proofs.Steps.{step-ending, sent-on, reroutes-few}
 
 -- a packet keeps its numbers where it is tidied
 pub tidied-dst : (p : Packet) → tidied p .dst ≡ p .dst
@@ -33,14 +30,6 @@ tidied-ttl p = pick-holds (λ (q : Packet). q .ttl ≡ p .ttl) (p .«has_proxy»
 pub tidied-retry : (p : Packet) → tidied p .retry ≡ p .retry
 tidied-retry p = pick-holds (λ (q : Packet). q .retry ≡ p .retry) (p .«has_proxy») p (cleared p) refl refl
 
--- how a journey may end: as a step, but not forwarded
-pub data Final : ℕ → Type 0 where
-  final-delivered : Final delivered
-  final-drop-ttl : Final drop-ttl
-  final-drop-route : Final drop-route
-  final-drop-retry : Final drop-retry
-  final-drop-proxy : Final drop-proxy
-
 final : {e : ℕ} → Ending e → (e ≡ forwarded → ⊥) → Final e
 final is-forwarded d = absurd (d refl)
 final is-delivered d = final-delivered
@@ -49,17 +38,7 @@ final is-drop-route d = final-drop-route
 final is-drop-retry d = final-drop-retry
 final is-drop-proxy d = final-drop-proxy
 
--- u is the last of some uids
-abbrev pub Last : ℕ → List ℕ → Type 0
-Last u uids = (before : List ℕ) × (uids ≡ before ++ (u ∷ []))
-
 module _ (h : Hall) (table : List ℕ) where
-  -- a journey is its last step, or a step that forwards and the journey from its next uid with the packet that it sends on
-  pub data Travels : ℕ → Packet → Trip → Type 0 where
-    last-step : {me : ℕ} {p : Packet} → (stepAt h table me p .ending ≡ forwarded → ⊥) → Travels me p (endsAt me (stepAt h table me p))
-    one-step : {me : ℕ} {p : Packet} {rest : Trip} → stepAt h table me p .ending ≡ forwarded
-        → Travels (stepAt h table me p .next) (stepAt h table me p .packet) rest → Travels me p (goesOn me (stepAt h table me p) rest)
-
   -- what a step sends on, of the packet as it came
   pub step-sends : (me : ℕ) (p : Packet) → stepAt h table me p .ending ≡ forwarded → SentOn p (stepAt h table me p)
   step-sends me p e =
@@ -71,11 +50,11 @@ module _ (h : Hall) (table : List ℕ) where
         spared = r .spared;
       }
 
-  trip-on : (f : ℕ) (me : ℕ) (p : Packet) → p .ttl ≡ f → Travels me p (tripOn f h table me p)
+  trip-on : (f : ℕ) (me : ℕ) (p : Packet) → p .ttl ≡ f → Travels h table me p (tripOn f h table me p)
   unfolding tripOn
   trip-on zero me p e = last-step {me = me} {p = p} (λ (q : stepAt h table me p .ending ≡ forwarded). omega (arith, step-sends me p q .ttl))
   trip-on (suc f) me p e =
-      pick-ways (Travels me p) (eqb (stepAt h table me p .ending) forwarded)
+      pick-ways (Travels h table me p) (eqb (stepAt h table me p .ending) forwarded)
       (goesOn me (stepAt h table me p) (tripOn f h table (stepAt h table me p .next) (stepAt h table me p .packet)))
       (endsAt me (stepAt h table me p))
       (λ q.
@@ -85,21 +64,21 @@ module _ (h : Hall) (table : List ℕ) where
       (λ q. last-step (eqb-false (stepAt h table me p .ending) forwarded q))
 
   -- each uid passed is the next of the step before, each packet the one that it sends on, and the journey's reroutes are the sum over its steps
-  pub trip-travels : (me : ℕ) (p : Packet) → Travels me p (trip h table me p)
+  pub trip-travels : (me : ℕ) (p : Packet) → Travels h table me p (trip h table me p)
   trip-travels me p = trip-on (p .ttl) me p refl
 
   -- links + 1 is the number of uids passed
-  pub links-counted : {me : ℕ} {p : Packet} {j : Trip} → Travels me p j → j .links + 1 ≡ length (j .uids)
+  pub links-counted : {me : ℕ} {p : Packet} {j : Trip} → Travels h table me p j → j .links + 1 ≡ length (j .uids)
   links-counted (last-step d) = refl
   links-counted (one-step e t) = let i = links-counted t in omega arith
 
   -- the first uid is the source
-  pub starts-there : {me : ℕ} {p : Packet} {j : Trip} → Travels me p j → (r : List ℕ) × (j .uids ≡ me ∷ r)
+  pub starts-there : {me : ℕ} {p : Packet} {j : Trip} → Travels h table me p j → (r : List ℕ) × (j .uids ≡ me ∷ r)
   starts-there (last-step d) = ([], refl)
   starts-there (one-step {rest = rest} e t) = (rest .uids, refl)
 
   -- no more links than the TTL
-  pub links-within : {me : ℕ} {p : Packet} {j : Trip} → Travels me p j → j .links ≤ p .ttl
+  pub links-within : {me : ℕ} {p : Packet} {j : Trip} → Travels h table me p j → j .links ≤ p .ttl
   links-within (last-step d) = omega arith
   links-within {me} {p} (one-step e t) = let i = links-within t in let z = step-sends me p e .ttl in omega arith
 
@@ -109,28 +88,18 @@ module _ (h : Hall) (table : List ℕ) where
   sum-few (suc r) a b c e k l = omega arith
 
   -- fewer reroutes than the retry, and none where it is 0
-  pub reroutes-within : {me : ℕ} {p : Packet} {j : Trip} → Travels me p j → j .reroutes ≤ p .retry - 1
+  pub reroutes-within : {me : ℕ} {p : Packet} {j : Trip} → Travels h table me p j → j .reroutes ≤ p .retry - 1
   reroutes-within {me} {p} (last-step d) = omega (arith, tidied-retry p, reroutes-few h (seen h (part h table me)) me (tidied p))
   reroutes-within {me} {p} (one-step {rest = rest} e t) =
       let z = step-sends me p e in
       sum-few (stepAt h table me p .packet .retry) (stepAt h table me p .reroutes) (rest .reroutes) (p .retry) (z .retry) (z .spared) (reroutes-within t)
 
   -- delivery or one of the four drops
-  pub trip-ending : {me : ℕ} {p : Packet} {j : Trip} → Travels me p j → Final (j .ending)
+  pub trip-ending : {me : ℕ} {p : Packet} {j : Trip} → Travels h table me p j → Final (j .ending)
   trip-ending {me} {p} (last-step d) = final (step-ending h (seen h (part h table me)) me (tidied p)) d
   trip-ending (one-step e t) = trip-ending t
 
-  -- the last server of a journey: its step ends the journey, with the packet as it came there
-  pub record LastStep (p : Packet) (j : Trip) : Type 0 where
-    pub at : ℕ
-    pub came : Packet
-    pub is-last : Last at (j .uids)
-    pub ends-it : stepAt h table at came .ending ≡ j .ending
-    pub same-dst : came .dst ≡ p .dst
-    pub aged : came .ttl + j .links ≡ p .ttl
-    pub lowered : came .retry + j .reroutes ≡ p .retry + stepAt h table at came .reroutes
-
-  pub trip-last : {me : ℕ} {p : Packet} {j : Trip} → Travels me p j → LastStep p j
+  pub trip-last : {me : ℕ} {p : Packet} {j : Trip} → Travels h table me p j → LastStep h table p j
   trip-last {me} {p} (last-step d) = record {
     at = me;
     came = p;
@@ -165,7 +134,7 @@ module _ (h : Hall) (table : List ℕ) where
     unfolding hops
     hops-one me = refl
 
-    pub each-hop : {me : ℕ} {p : Packet} {j : Trip} → Travels me p j → I me p → Each (λ e. R (e .0) (e .1)) (hops (j .uids))
+    pub each-hop : {me : ℕ} {p : Packet} {j : Trip} → Travels h table me p j → I me p → Each (λ e. R (e .0) (e .1)) (hops (j .uids))
     each-hop {me} {p} (last-step d) k = rw (hops-one me) tt
     each-hop {me} {p} (one-step {rest = rest} e t) k =
         let s = starts-there t in

@@ -1,32 +1,30 @@
 -- With any codes: each step that forwards hops over a usable link to a server of the hall, with a packet of the hall, so each hop of a
 -- journey does; and the last step says what the ending means.
-use mathlib.Core.Path.{_≡_, refl, sym, _∙_, ap}
-use mathlib.Core.Bool.{Bool, true, false}
+use mathlib.Core.Path.{_≡_, refl, sym, _∙_}
+use mathlib.Core.Bool.{true}
 use mathlib.Core.List.{List}
-use Prim.Native.Nat.{ℕ, suc, _+_, _-_, _*_, _≤_, _<_}
-use native.Mathlib.Omega.{arith}
+use Prim.Native.Nat.{ℕ, suc, _≤_, _<_}
 use Rattle.combine.proofs.Tests.{never}
 use Rattle.hall.specs.declared.Hall.{Hall}
 use Rattle.hall.specs.Halls.{valid, servers}
 use Rattle.hall.proofs.Growth.{Valid, valid-known}
 use Rattle.ports.specs.Codes.{up, part}
-use Rattle.ports.specs.Links.{joined}
 use Rattle.ports.proofs.Runs.{part-up}
 use Rattle.local.proofs.Uids.{linked-hall}
-use Rattle.local.specs.Local.{cellSize, placeOf, firstOf, linked}
+use Rattle.local.specs.Local.{cellSize, placeOf, linked}
 use Rattle.forward.specs.declared.Packet.{Packet}
-use Rattle.forward.specs.declared.Step.{Step}
 use Rattle.forward.specs.Packets.{forwarded, cleared, tidied}
 use Rattle.forward.specs.Seen.{usable, seen}
-use Rattle.forward.specs.Journeys.{Trip, stepAt, trip}
+use Rattle.forward.specs.Journeys.{stepAt}
 use Rattle.forward.proofs.Passes.{pick-ways}
 use Rattle.forward.proofs.Steps.{delivered-there, drop-ttl-there, drop-route-means, drop-retry-means, drop-proxy-means}
-use Rattle.forward.proofs.Trips.{Final, final-delivered, final-drop-ttl, final-drop-route, final-drop-retry, final-drop-proxy, tidied-dst, tidied-ttl, Travels, trip-travels, links-within, reroutes-within, trip-ending, trip-last, each-hop}
+use Rattle.forward.proofs.Ways.{Fits, Hop, inside, over, Final, final-delivered, final-drop-ttl, final-drop-route, final-drop-retry, final-drop-proxy}
+use Rattle.forward.proofs.Trips.{tidied-dst, tidied-ttl, trip-travels, links-within, reroutes-within, trip-ending, trip-last, each-hop}
 use Rattle.forward.proofs.Links.{n-pos}
-use Rattle.forward.proofs.Hops.{Fits, Hop, inside, over, step-forwards}
+use Rattle.forward.proofs.Hops.{step-forwards}
 use Rattle.forward.proofs.Sight.{seen-links}
-use Rattle.promises.specs.Journeys.{Sound, Usable, up-to-b, above-b}
-use Rattle.promises.specs.AnyCodes.{Means, means-delivered, means-ttl, means-route, means-retry, means-proxy, EndedAt, Kept, AnyCodes}
+use Rattle.promises.specs.Journeys.{Usable, up-to-b, above-b}
+use Rattle.promises.specs.AnyCodes.{Means, means-delivered, means-ttl, means-route, means-retry, means-proxy, AnyCodes}
 
 tidied-fits : (h : Hall) (p : Packet) → Fits h p → Fits h (tidied p)
 tidied-fits h p f =

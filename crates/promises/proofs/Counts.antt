@@ -2,25 +2,23 @@
 use mathlib.Core.Path.{_≡_, refl, sym, _∙_, ap}
 use mathlib.Core.Bool.{Bool, true, false, not}
 use mathlib.Core.List.{List, [], _∷_, _++_}
-use Prim.Native.Nat.{ℕ, _+_, _-_, _≤_, _<_}
+use Prim.Native.Nat.{ℕ, _+_, _-_, _≤_}
 use native.Mathlib.Omega.{arith}
 use lib.Dec.{eqb, leb, ltb}
-use lib.ListN.{length, take, drop, replicate, length-append, length-replicate}
+use lib.ListN.{length, drop, replicate, length-append, length-replicate}
 use lib.Seq.{take-at, drop-at}
 use borrow.Author.Tests.{eq-eqb, lt-ltb, le-leb}
-use Rattle.combine.specs.Tests.{pick, both, either}
-use Rattle.combine.proofs.Tests.{cases, either-true}
+use Rattle.combine.specs.Tests.{pick, either}
 use Rattle.hall.specs.declared.Hall.{Hall}
 use Rattle.hall.specs.Refusals.{refusal}
 use Rattle.hall.specs.Halls.{valid, servers}
 use Rattle.ports.specs.Codes.{tableLength}
 use Rattle.forward.specs.declared.Packet.{Packet}
-use Rattle.forward.specs.declared.Journey.{Journey}
 use Rattle.forward.specs.Journeys.{Trip, trip}
 use Rattle.forward.specs.Answers.{passed, journeyFrom, journeyOf}
-use Rattle.forward.proofs.Trips.{Travels, trip-travels, links-counted, links-within, starts-there}
+use Rattle.forward.proofs.Trips.{trip-travels, links-counted, links-within, starts-there}
 use Rattle.promises.specs.Journeys.{Sound}
-use Rattle.promises.specs.Counts.{Counted, Told, Counts, Answers}
+use Rattle.promises.specs.Counts.{Told, Counts, Answers}
 
 pub counts : Counts
 counts h table source p =

@@ -1,16 +1,16 @@
 -- With every port up no pass of a step fails, so each step hops as the route's links above b say, without a reroute; such hops leave one
 -- less to go each, and at first fewer than 2 ^ (l + 1) are left.
 use mathlib.Core.Path.{_≡_, refl, sym, _∙_, ap, subst}
-use mathlib.Core.Bool.{Bool, true, false, not, true≢false}
+use mathlib.Core.Bool.{Bool, true, false, not}
 use mathlib.Core.List.{List, [], _∷_, _++_}
 use mathlib.Core.Logic.{_⊎_, inl, inr, ⊎-elim}
-use Prim.Native.Nat.{ℕ, zero, suc, _+_, _-_, _*_, _^_, _≤_, _<_}
+use Prim.Native.Nat.{ℕ, zero, suc, _+_, _-_, _^_, _≤_, _<_}
 use native.Mathlib.Numerals.{add-one}
 use native.Mathlib.Omega.{arith}
 use lib.Dec.{eqb, leb}
 use lib.ListN.{length, replicate, length-append}
 use borrow.Author.Tests.{eqb-true, eqb-false, ne-eqb, leb-true, leb-false}
-use Rattle.combine.specs.Tests.{pick, both}
+use Rattle.combine.specs.Tests.{pick}
 use Rattle.combine.proofs.Tests.{cases, never}
 use Rattle.hall.specs.declared.Hall.{Hall}
 use Rattle.hall.specs.Cells.{t, same, lowest}
@@ -19,15 +19,13 @@ use Rattle.hall.proofs.Cells.{same-mono}
 use Rattle.hall.proofs.Growth.{Valid, valid-known}
 use Rattle.hall.proofs.Links.{hall-same}
 use Rattle.ports.specs.Codes.{part, cellLength, tableLength, EveryUp}
-use Rattle.ports.proofs.Parts as parts
 use Rattle.ports.proofs.Runs.{every-up}
 use Rattle.route.specs.declared.Crossing.{Crossing}
-use Rattle.route.specs.declared.Crossing.the-variants.{Link, Nothing}
 use Rattle.route.specs.Routes.{hops, ofLevel, select, above, route}
 use Rattle.route.specs.Delivery.{hop, passed, left, Local}
 use Rattle.route.proofs.Counts.{not-above}
 use Rattle.route.proofs.Lists.{select-none}
-use Rattle.route.proofs.Lowest.{lowest-fits, lowest-holds}
+use Rattle.route.proofs.Lowest.{lowest-holds}
 use Rattle.route.proofs.Above.{above-none, above-hops, above-of-level}
 use Rattle.route.proofs.Recursion.{above-lowest, links-none-above}
 use Rattle.route.proofs.Delivery as delivery
@@ -37,14 +35,14 @@ use Rattle.local.proofs.Short.{AllUp, all-up-reached, all-up-between, all-up-lo
 use Rattle.forward.specs.declared.Packet.{Packet}
 use Rattle.forward.specs.declared.Step.{Step}
 use Rattle.forward.specs.Packets.{forwarded, delivered, cleared, tidied, isArrived, goal, aged}
-use Rattle.forward.specs.Seen.{Seen, usable, seen}
+use Rattle.forward.specs.Seen.{usable, seen}
 use Rattle.forward.specs.Steps.{reachable, stepOn}
 use Rattle.forward.specs.Journeys.{Trip, stepAt, trip}
-use Rattle.forward.proofs.Passes.{Target, the-goal, the-near, Fails, unusable, out-of-reach, Ends, nears, crosses, no-route, spent, no-proxy, Passes, ends, clears, sets}
-use Rattle.forward.proofs.Steps.{Steps, delivers, dies, arrives, sets-out, step-ways, there-delivered, there-drop-ttl}
-use Rattle.forward.proofs.Trips.{Last, Travels, last-step, one-step, step-sends, trip-travels, links-counted}
+use Rattle.forward.proofs.Ways.{Target, the-goal, the-near, Fails, unusable, out-of-reach, nears, crosses, no-route, spent, no-proxy, Passes, ends, clears, sets, Steps, delivers, dies, arrives, sets-out, Fits, Last, Travels, last-step, one-step}
+use Rattle.forward.proofs.Steps.{step-ways, there-delivered, there-drop-ttl}
+use Rattle.forward.proofs.Trips.{step-sends, trip-travels, links-counted}
 use Rattle.forward.proofs.Links.{n-pos, link-above, none-above, link-ahead}
-use Rattle.forward.proofs.Hops.{Fits, step-forwards}
+use Rattle.forward.proofs.Hops.{step-forwards}
 use Rattle.forward.proofs.Sight.{seen-links}
 use Rattle.promises.specs.Journeys.{Sound}
 use Rattle.promises.specs.EveryUp.{common, linksOf, Delivered, AllDelivered}

@@ -1,14 +1,7 @@
 -- Every answer reads a table through its length and through which of its codes are 1.
-use mathlib.Core.Path.{_≡_, refl, sym, _∙_, ap}
-use mathlib.Core.List.{List}
-use Prim.Native.Nat.{ℕ}
-use lib.ListN.{length}
-use Rattle.hall.specs.declared.Hall.{Hall}
-use Rattle.ports.specs.Codes.{SameUps}
 use Rattle.local.specs.Local.{placeOf}
-use Rattle.forward.specs.declared.Packet.{Packet}
 use Rattle.forward.proofs.Agree.{distances-same, hop-same, step-agrees, trip-agrees}
-use Rattle.promises.specs.OneCode.{SameAnswers, OneCode}
+use Rattle.promises.specs.OneCode.{OneCode}
 
 pub one-code : OneCode
 one-code h a b e s = record {

@@ -11,8 +11,7 @@ use Rattle.forward.specs.declared.Packet.{Packet}
 use Rattle.forward.specs.Packets.{drop-ttl, drop-route, drop-retry, drop-proxy, delivered, tidied}
 use Rattle.forward.specs.Seen.{seen}
 use Rattle.forward.specs.Journeys.{Trip, stepAt, trip}
-use Rattle.forward.proofs.Steps.{NoRoute, Spent, NoProxy}
-use Rattle.forward.proofs.Trips.{Last}
+use Rattle.forward.proofs.Ways.{NoRoute, Spent, NoProxy, Last}
 use Rattle.promises.specs.Journeys.{Sound, Usable}
 
 -- what the ending of a step at a server says, for the packet as it came there

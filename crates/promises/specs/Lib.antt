@@ -4,3 +4,5 @@ pub mod AnyCodes
 pub mod Counts
 pub mod OneCode
 pub mod EveryUp
+pub mod OneOutcome
+pub mod Cases

@@ -6,6 +6,7 @@ mod calls;
 mod chains;
 mod frames;
 mod inputs;
+mod packets;
 mod pairs;
 mod room;
 pub mod table1;

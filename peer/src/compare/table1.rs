@@ -115,7 +115,9 @@ mod tests {
     #[test]
     fn mean_and_deviation_are_those_of_the_numbers_added() {
         let mut sums = Sums::default();
-        [2, 4, 4, 4, 5, 5, 7, 9].map(|number| sums.add(number));
+        for number in [2, 4, 4, 4, 5, 5, 7, 9] {
+            sums.add(number);
+        }
         assert_eq!(sums.figures(), [5.0, 2.0]);
     }
 

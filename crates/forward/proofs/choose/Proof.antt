@@ -1,12 +1,12 @@
 -- `forward::choose` meets its contract: what is left of the search is the whole search, the best so far is that of the places passed.
-use mathlib.Core.Path.{_≡_, refl, sym, _∙_, ap}
+use mathlib.Core.Path.{_≡_, refl, sym, _∙_}
 use mathlib.Core.Logic.{⊎-elim}
 use Prim.Native.Nat.{suc, _+_, _-_, _≤_, _<_}
 use native.Mathlib.Omega.{arith}
 use borrow.Author.Needs.{needs}
 use Rattle.hall.proofs.Growth.{valid-known}
 use Rattle.local.specs.Local.{cellSize, placeOf}
-use Rattle.forward.specs.declared.Candidate.the-variants.{At, Nothing}
+use Rattle.forward.specs.declared.Candidate.the-variants.{Nothing}
 use Rattle.forward.specs.Seen.{Seen, seen}
 use Rattle.forward.specs.Proxies.{bestBelow, choice}
 use Rattle.forward.proofs.CodeChoice.{leastOf, best-none, turn-nearer, turn-kept, choiceFrom, choice-whole, found-here, found-later, found-never, count-is, count-fits, distance-is, distance-small}
@@ -14,13 +14,16 @@ use Rattle.forward.proofs.choose.Statement.{statement}
 use Rattle.forward.proofs.choose.Tie as tie
 
 abbrev Inv-loop : tie.InvT-loop
-Inv-loop h table me first count distance best₀ level least₀ place₀ best least place = (place ≤ count) × (best ≡ bestBelow (seen h table) (placeOf h me) level place) × (least ≡ leastOf ((seen h table) .distance (placeOf h me)) best) × (least ≤ 255)
+Inv-loop h table me first count distance best₀ level least₀ place₀ best least place =
+    (place ≤ count) × (best ≡ bestBelow (seen h table) (placeOf h me) level place)
+    × (least ≡ leastOf ((seen h table) .distance (placeOf h me)) best) × (least ≤ 255)
 
 abbrev μ-loop : tie.MeasureT-loop
 μ-loop h table me first count distance best₀ level least₀ place₀ best least place = count - place
 
 abbrev Inv-search : tie.InvT-search
-Inv-search h table me first count distance best₀ level₀ best level = (choiceFrom h (seen h table) (placeOf h me) level ≡ choice h (seen h table) (placeOf h me) first) × (best ≡ Nothing)
+Inv-search h table me first count distance best₀ level₀ best level =
+    (choiceFrom h (seen h table) (placeOf h me) level ≡ choice h (seen h table) (placeOf h me) first) × (best ≡ Nothing)
 
 abbrev μ-search : tie.MeasureT-search
 μ-search h table me first count distance best₀ level₀ best level = suc (h .k) - level

@@ -6,11 +6,6 @@ use borrow.Author.Needs.{needs}
 use Rattle.forward.proofs.CodeTrips.{Underway, sets-off, part-here, step-is, step-few, ttl-falls, ends-journey, goes-on}
 use Rattle.forward.proofs.travel.Statement.{statement}
 use Rattle.forward.proofs.travel.Tie as tie
-use Rattle.forward.proofs.travel.Reads as reads
-use Rattle.forward.proofs.travel.Lts as lts
-use Rattle.forward.proofs.no_uids.Reads as no-uids-reads
-use Rattle.forward.proofs.step_at.Reads as step-at-reads
-use Rattle.ports.proofs.part_of.Reads as part-of-reads
 
 abbrev Inv-loop : tie.InvT-loop
 Inv-loop h table source uids₀ me₀ p₀ reroutes₀ at₀ uids me p reroutes at = Underway h table source p₀ uids me p reroutes at

@@ -108,20 +108,21 @@ fn edge_tables(h: Hall) -> impl Iterator<Item = Checked> {
     } else {
         vec![right - 1, right, right + 1]
     };
-    let with_place = |count: usize| {
-        let last = count.checked_sub(1).map(|place| (place, u8::MAX));
-        let first = last.map(|_| (0, 5));
-        let places = if light(h) {
-            vec![None, first, last]
-        } else {
-            vec![None, last]
-        };
-        places.into_iter().map(move |at| (count, at))
+    let with_code = move |count| edge_codes(h, count).into_iter().map(move |at| (count, at));
+    let tables = lengths.into_iter().flat_map(with_code);
+    tables.map(move |(count, at)| all_up_but(h, count, at))
+}
+
+/// The unknown codes to try in a table of so many codes, a place and a code each; also none.
+fn edge_codes(h: Hall, count: usize) -> Vec<Option<(usize, u8)>> {
+    let Some(last) = count.checked_sub(1) else {
+        return vec![None];
     };
-    let tables: Vec<_> = lengths.into_iter().flat_map(with_place).collect();
-    tables
-        .into_iter()
-        .map(move |(count, at)| all_up_but(h, count, at))
+    if light(h) {
+        vec![None, Some((0, 5)), Some((last, u8::MAX))]
+    } else {
+        vec![None, Some((last, u8::MAX))]
+    }
 }
 
 /// A table of so many codes, all up but one.

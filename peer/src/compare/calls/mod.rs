@@ -10,6 +10,7 @@ mod check_place;
 mod distances;
 mod distances_origin;
 mod driver_route;
+mod journey;
 mod link;
 mod neighbour;
 mod next_hop;
@@ -20,6 +21,7 @@ mod read_header;
 mod route;
 mod route_links;
 mod sizes;
+mod step;
 mod tuple;
 mod uid;
 mod write_header;
@@ -36,7 +38,7 @@ pub struct Listed {
     pub measure: fn(seed: u64) -> Vec<Measure>,
 }
 
-/// Every call, in the order of document 01.
+/// Every call, in the order of the rules.
 pub const CALLS: &[Listed] = &[
     listed::<sizes::Sizes>(),
     listed::<uid::Uid>(),
@@ -53,6 +55,8 @@ pub const CALLS: &[Listed] = &[
     listed::<distances::Distances>(),
     listed::<distances_origin::DistancesOrigin>(),
     listed::<next_hop::NextHop>(),
+    listed::<step::Step>(),
+    listed::<journey::Journey>(),
     listed::<broadcast::Broadcast>(),
     listed::<read_header::ReadHeader>(),
     listed::<payload::Payload>(),

@@ -1,0 +1,71 @@
+//! One forwarding step in the driver's form.
+
+use peer::forward;
+use peer::random::Random;
+use peer::refusal::{FIELD, HALL, LENGTH, NONE, ROOM, UID};
+use peer::route::WORD;
+
+use crate::compare::call::{Call, Case};
+use crate::compare::packets::{any_near, sound_near, words_of, Near};
+use crate::compare::room::{told, Room};
+use crate::rattle;
+
+/// The bytes of the answer: eight words.
+const BYTES: usize = 8 * WORD;
+
+/// The call `tbexlum_step`.
+pub struct Step;
+
+impl Call for Step {
+    type Input = Near;
+    type Rooms = Room<u8>;
+
+    const NAME: &'static str = "step";
+    const NUMBERS: &'static [u32] = &[NONE, HALL, UID, LENGTH, ROOM, FIELD];
+    const INPUTS: u32 = 1_000_000;
+    const MEASURED: usize = 128;
+    const CASES: &'static [Case<Near>] = &[
+        case::<4, 3, 0, 0>("n 4, k 3, b 0"),
+        case::<4, 3, 1, 0>("n 4, k 3, b 1"),
+        case::<8, 3, 0, 0>("n 8, k 3, b 0"),
+        case::<8, 3, 0, 5>("n 8, k 3, b 0, 5% down"),
+        case::<8, 3, 1, 0>("n 8, k 3, b 1"),
+        case::<8, 3, 1, 5>("n 8, k 3, b 1, 5% down"),
+    ];
+
+    fn any(random: &mut Random) -> Near {
+        any_near(random)
+    }
+
+    fn edges() -> impl Iterator<Item = Near> {
+        let mut random = Random::new(2);
+        (0..1000).map(move |_| any_near(&mut random))
+    }
+
+    fn rooms(_: &Near, random: &mut Random) -> Room<u8> {
+        Room::any(random, BYTES, BYTES + 4)
+    }
+
+    fn ample_rooms() -> Room<u8> {
+        Room::new(BYTES)
+    }
+
+    fn rattle(at: &Near, room: &mut Room<u8>) -> u32 {
+        rattle::step(at.hall, at.uid, at.packet, at.flag, &at.codes, room.lent())
+    }
+
+    fn peer(at: &Near, room: &mut Room<u8>) -> u32 {
+        let answer = forward::step(at.hall, at.uid, at.packet, &at.codes);
+        told(answer.refusal, &words_of(&answer), room.lent())
+    }
+}
+
+/// A line of the benchmark: steps of one hall.
+const fn case<const N: u32, const K: u32, const B: u32, const DOWN: u32>(
+    name: &'static str,
+) -> Case<Near> {
+    Case {
+        name,
+        draw: |random| sound_near(random, peer::hall::Hall { n: N, k: K, b: B }, DOWN),
+    }
+}

@@ -1,0 +1,158 @@
+//! Packets to forward: at a server with the table of its cell, or on a journey over the hall table.
+
+use peer::forward::{Packet, Step, MOST_RETRY};
+use peer::hall::Hall;
+use peer::random::Random;
+
+use super::inputs::{any_hall, any_uid, servers, sizes};
+use super::tables::{
+    any_codes, any_hall_table, any_length, cell_codes, codes, sound_hall_table, Table,
+};
+
+/// The bytes of a step's answer: eight words of four.
+const STEP_BYTES: usize = 32;
+/// A retry that is refused, among those drawn.
+const RETRIES: u32 = MOST_RETRY as u32 + 2;
+
+/// A packet at a server, with the table of the server's cell.
+#[derive(Debug)]
+pub struct Near {
+    pub hall: Hall,
+    pub uid: u32,
+    pub packet: Packet,
+    /// The number that tells of a proxy.
+    pub flag: u32,
+    pub codes: Vec<u8>,
+}
+
+/// A packet at its source, with the hall table.
+#[derive(Debug)]
+pub struct Far {
+    pub hall: Hall,
+    pub uid: u32,
+    pub packet: Packet,
+    /// The number that tells of a proxy.
+    pub flag: u32,
+    pub table: Table,
+}
+
+/// Any packet at any server, with any table of its cell.
+pub fn any_near(random: &mut Random) -> Near {
+    let hall = any_hall(random);
+    let uid = any_uid(random, hall);
+    let (packet, flag) = any_packet(random, hall, uid);
+    let count = any_length(random, cell_codes(hall));
+    Near {
+        hall,
+        uid,
+        packet,
+        flag,
+        codes: any_codes(random, count),
+    }
+}
+
+/// Any packet on a journey from any server, with any hall table.
+pub fn any_far(random: &mut Random) -> Far {
+    let hall = any_hall(random);
+    let uid = any_uid(random, hall);
+    let (packet, flag) = any_packet(random, hall, uid);
+    Far {
+        hall,
+        uid,
+        packet,
+        flag,
+        table: any_hall_table(random, hall),
+    }
+}
+
+/// A packet without a proxy at a server of a sound hall, with so many in a hundred codes of its cell not up.
+pub fn sound_near(random: &mut Random, hall: Hall, not_up: u32) -> Near {
+    let uid = random.below(servers(hall).unwrap_or(1));
+    Near {
+        hall,
+        uid,
+        packet: sound_packet(random, hall),
+        flag: 0,
+        codes: codes(random, cell_codes(hall), not_up),
+    }
+}
+
+/// A packet without a proxy on a journey in a sound hall, with so many in a hundred codes not up around its source.
+pub fn sound_far(random: &mut Random, hall: Hall, not_up: u32) -> Far {
+    let (table, uid) = sound_hall_table(random, hall, not_up);
+    Far {
+        hall,
+        uid,
+        packet: sound_packet(random, hall),
+        flag: 0,
+        table,
+    }
+}
+
+/// The answer of a step as the driver's bytes.
+pub fn words_of(answer: &Step) -> [u8; STEP_BYTES] {
+    let packet = &answer.packet;
+    let words = [
+        answer.ending,
+        answer.next,
+        packet.dst,
+        u32::from(packet.has_proxy),
+        packet.proxy,
+        u32::from(packet.retry),
+        u32::from(packet.ttl),
+        answer.reroutes,
+    ];
+    let mut bytes = [0; STEP_BYTES];
+    for (place, word) in bytes.chunks_exact_mut(4).zip(words) {
+        place.copy_from_slice(&word.to_be_bytes());
+    }
+    bytes
+}
+
+/// Any packet and the number that tells of its proxy: its servers mostly of the hall, often near the server it is at.
+fn any_packet(random: &mut Random, hall: Hall, uid: u32) -> (Packet, u32) {
+    let has_proxy = random.once_in(2);
+    let flag = if has_proxy {
+        1 + random.below(u32::MAX)
+    } else {
+        0
+    };
+    let packet = Packet {
+        dst: any_server(random, hall, uid),
+        has_proxy,
+        proxy: any_server(random, hall, uid),
+        retry: random.below(RETRIES) as u8,
+        ttl: any_ttl(random),
+    };
+    (packet, flag)
+}
+
+/// A server for a packet at another: that one, one of its cell, or any.
+fn any_server(random: &mut Random, hall: Hall, uid: u32) -> u32 {
+    let cell = sizes(hall).map_or(1, |t| t[hall.b as usize]);
+    match random.below(8) {
+        0 => uid,
+        1 | 2 => (uid / cell * cell).saturating_add(random.below(cell)),
+        _ => any_uid(random, hall),
+    }
+}
+
+/// A TTL: few, or any.
+fn any_ttl(random: &mut Random) -> u8 {
+    if random.once_in(3) {
+        random.below(5) as u8
+    } else {
+        random.byte()
+    }
+}
+
+/// A packet to any server of a sound hall, with retry and TTL enough.
+fn sound_packet(random: &mut Random, hall: Hall) -> Packet {
+    Packet {
+        dst: random.below(servers(hall).unwrap_or(1)),
+        has_proxy: false,
+        proxy: 0,
+        retry: 5,
+        ttl: 255,
+    }
+}
