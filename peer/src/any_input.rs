@@ -1,4 +1,4 @@
-//! Calls every public function with any numbers and bytes at all, to show that each of them answers, and as document 01 shapes it.
+//! Calls every public function with any numbers and bytes at all, to show that each of them answers, and as docs/RULES.md shapes it.
 
 use crate::forward::{journey, step, Packet};
 use crate::hall::{cell, link, neighbour, sizes, tuple_of, uid_of, Hall};

@@ -1,4 +1,4 @@
-//! A separate implementation of document 01, one module for each of its sections, to compare with and to measure against.
+//! A separate implementation of docs/RULES.md, one module for each of its sections, to compare with and to measure against.
 
 #![forbid(unsafe_code)]
 

@@ -1,4 +1,4 @@
-//! Slow, literal second versions of the rules of document 01, which the tests compare with the fast ones.
+//! Slow, literal second versions of the rules of docs/RULES.md, which the tests compare with the fast ones.
 
 use crate::forward::{self, Packet};
 use crate::hall::Hall;
@@ -183,7 +183,7 @@ struct Work {
     reroutes: u32,
 }
 
-/// A literal step: the numbered sentences of document 01, each in its place.
+/// A literal step: the numbered sentences of docs/RULES.md, each in its place.
 pub fn step(h: Hall, own: u32, came: Packet, table: &[u8]) -> forward::Step {
     let t = size(h.n, h.b);
     let stand = Stand {

@@ -1,4 +1,4 @@
-//! The refusal numbers of document 01, by name.
+//! The refusal numbers of docs/RULES.md, by name.
 
 /// No refusal.
 pub const NONE: u32 = 0;

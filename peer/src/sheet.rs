@@ -270,7 +270,7 @@ mod tests {
     const COUNT_3: usize = 51;
     const PACKETS: usize = 55;
 
-    /// The sheet of document 01 with so many copies of its packet.
+    /// The sheet of docs/RULES.md with so many copies of its packet.
     fn sample(packets: usize) -> Vec<u8> {
         let mut sheet = vec![0, 0, 0, 3, 4, 1, 0, 0, 0, 0, 40];
         sheet.extend([1; 40]);

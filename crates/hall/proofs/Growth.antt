@@ -28,6 +28,11 @@ t-up n i (suc j) h = cases (leb i j)
     (λ q. omega (arith, t-up n i j (leb-true i j q)))
     (λ q. let z : i ≡ suc j = omega (arith, leb-false i j q) in rw z (omega arith))
 
+-- a cell has more servers than a sub-cell
+pub t-grows : (n i : ℕ) → 0 < n → t n i < t n (suc i)
+unfolding t
+t-grows n i pos = let h = t-pos n pos i in omega (arith, mul-le-mul h h)
+
 -- no hall is larger than that of n = 8, k = 3
 pub t-fits : (n i : ℕ) → n ≤ 8 → i ≤ 3 → t n i ≤ largest
 unfolding t

@@ -6,3 +6,4 @@ pub mod Passing
 pub mod EveryUp
 pub mod OneOutcome
 pub mod Cases
+pub mod OneOutcomeC

@@ -1,8 +1,5 @@
--- Each contract equates its result with one definition, and two things equal to one are equal.
+-- Each contract equates its result, and each lent room at exit, with one definition, and two things equal to one are equal.
 use mathlib.Core.Path.{_≡_, sym, _∙_}
-use borrow.Fn.Kinds.{Dens, resT, endedOf}
-use contract.Lifetimes.{Lfts}
-use denote.Triple.Clauses.{AtExit}
 use Rattle.hall.proofs.n_fits.Kinds as n-fits
 use Rattle.hall.proofs.n_fits.Reads as n-fits′
 use Rattle.hall.proofs.k_fits.Kinds as k-fits
@@ -43,14 +40,46 @@ use Rattle.local.proofs.distances_of.Kinds as distances-of
 use Rattle.local.proofs.distances_of.Reads as distances-of′
 use Rattle.local.proofs.next_hop.Kinds as next-hop
 use Rattle.local.proofs.next_hop.Reads as next-hop′
+use Rattle.forward.proofs.forward_step.Kinds as forward-step
+use Rattle.forward.proofs.forward_step.Reads as forward-step′
+use Rattle.forward.proofs.journey_of.Kinds as journey-of
+use Rattle.forward.proofs.journey_of.Reads as journey-of′
+use Rattle.frame.proofs.read_frame.Kinds as read-frame
+use Rattle.frame.proofs.read_frame.Reads as read-frame′
+use Rattle.frame.proofs.next_identification.Kinds as next-identification
+use Rattle.frame.proofs.next_identification.Reads as next-identification′
+use Rattle.sheet.proofs.read_sheet.Kinds as read-sheet
+use Rattle.sheet.proofs.read_sheet.Reads as read-sheet′
+use Rattle.sheet.proofs.packet_fields.Kinds as packet-fields
+use Rattle.sheet.proofs.packet_fields.Reads as packet-fields′
+use Rattle.sheet.proofs.packet_at.Kinds as packet-at
+use Rattle.sheet.proofs.packet_at.Reads as packet-at′
 use Rattle.ports.proofs.part_of.Kinds as part-of
 use Rattle.ports.proofs.part_of.Reads as part-of′
-use Rattle.promises.specs.OneOutcome.{OneResult}
+use Rattle.frame.proofs.payload_of.Kinds as payload-of
+use Rattle.frame.proofs.payload_of.Reads as payload-of′
+use Rattle.sheet.proofs.codes_part.Kinds as codes-part
+use Rattle.sheet.proofs.codes_part.Reads as codes-part′
+use Rattle.sheet.proofs.codes_of.Kinds as codes-of
+use Rattle.sheet.proofs.codes_of.Reads as codes-of′
+use Rattle.broadcast.proofs.broadcast_rounds.Kinds as broadcast-rounds
+use Rattle.broadcast.proofs.broadcast_rounds.Reads as broadcast-rounds′
+use Rattle.frame.proofs.write_header.Kinds as write-header
+use Rattle.frame.proofs.write_header.Reads as write-header′
+use Rattle.report.proofs.hall_line.Kinds as hall-line
+use Rattle.report.proofs.hall_line.Reads as hall-line′
+use Rattle.report.proofs.refused_line.Kinds as refused-line
+use Rattle.report.proofs.refused_line.Reads as refused-line′
+use Rattle.report.proofs.end_line.Kinds as end-line
+use Rattle.report.proofs.end_line.Reads as end-line′
+use Rattle.report.proofs.packet_line.Kinds as packet-line
+use Rattle.report.proofs.packet_line.Reads as packet-line′
+use Rattle.promises.specs.OneOutcome.{Agrees, OneResult}
 
-one {ℓ} : {A : Type ℓ} {d x y : A} → x ≡ d → y ≡ d → x ≡ y
+pub one {ℓ} : {A : Type ℓ} {d x y : A} → x ≡ d → y ≡ d → x ≡ y
 one p q = p ∙ sym q
 
--- the public functions of crate `hall`
+-- crate `hall`: the result
 pub «n_fits» : OneResult 0 n-fits.ps n-fits.r n-fits′.Learnt
 «n_fits» κs a x y e f = one
 
@@ -90,7 +119,7 @@ pub «neighbour_over» : OneResult 0 neighbour-over.ps neighbour-over.r neighbou
 pub «ends_over» : OneResult 0 ends-over.ps ends-over.r ends-over′.Learnt
 «ends_over» κs a x y e f = one
 
--- the public functions of crate `ports`
+-- crate `ports`: the result
 pub «is_up» : OneResult 1 is-up.ps is-up.r is-up′.Learnt
 «is_up» κs a x y e f = one
 
@@ -100,21 +129,72 @@ pub «check_table» : OneResult 1 check-table.ps check-table.r check-table′.Le
 pub «part_refusal» : OneResult 1 part-refusal.ps part-refusal.r part-refusal′.Learnt
 «part_refusal» κs a x y e f = one
 
--- the public functions of crate `route`
+-- crate `route`: the result
 pub «route_between» : OneResult 0 route-between.ps route-between.r route-between′.Learnt
 «route_between» κs a x y e f = one
 
 pub «first_link» : OneResult 0 first-link.ps first-link.r first-link′.Learnt
 «first_link» κs a x y e f = one
 
--- the public functions of crate `local`
+-- crate `local`: the result
 pub «distances_of» : OneResult 1 distances-of.ps distances-of.r distances-of′.Learnt
 «distances_of» κs a x y e f = one
 
 pub «next_hop» : OneResult 1 next-hop.ps next-hop.r next-hop′.Learnt
 «next_hop» κs a x y e f = one
 
--- a part of a lent table that is handed back: its content
-pub «part_of» : (κs : Lfts 1) (a : Dens κs part-of.ps) (x y : resT part-of.r κs .Denot) (e f : AtExit (endedOf 1 part-of.ps part-of.r) κs)
-    → part-of′.Learnt κs a x e → part-of′.Learnt κs a y f → x .now ≡ y .now
+-- crate `forward`: the result
+pub «forward_step» : OneResult 1 forward-step.ps forward-step.r forward-step′.Learnt
+«forward_step» κs a x y e f = one
+
+pub «journey_of» : OneResult 1 journey-of.ps journey-of.r journey-of′.Learnt
+«journey_of» κs a x y e f = one
+
+-- crate `frame`: the result
+pub «read_frame» : OneResult 1 read-frame.ps read-frame.r read-frame′.Learnt
+«read_frame» κs a x y e f = one
+
+pub «next_identification» : OneResult 0 next-identification.ps next-identification.r next-identification′.Learnt
+«next_identification» κs a x y e f = one
+
+-- crate `sheet`: the result
+pub «read_sheet» : OneResult 1 read-sheet.ps read-sheet.r read-sheet′.Learnt
+«read_sheet» κs a x y e f = one
+
+pub «packet_fields» : OneResult 1 packet-fields.ps packet-fields.r packet-fields′.Learnt
+«packet_fields» κs a x y e f = one
+
+pub «packet_at» : OneResult 1 packet-at.ps packet-at.r packet-at′.Learnt
+«packet_at» κs a x y e f = one
+
+-- a part of lent memory that is handed back: its content
+pub «part_of» : Agrees 1 part-of.ps part-of.r part-of′.Learnt (λ κs x y e f. x .now ≡ y .now)
 «part_of» κs a x y e f = one
+
+pub «payload_of» : Agrees 1 payload-of.ps payload-of.r payload-of′.Learnt (λ κs x y e f. x .now ≡ y .now)
+«payload_of» κs a x y e f = one
+
+pub «codes_part» : Agrees 1 codes-part.ps codes-part.r codes-part′.Learnt (λ κs x y e f. x .now ≡ y .now)
+«codes_part» κs a x y e f = one
+
+pub «codes_of» : Agrees 1 codes-of.ps codes-of.r codes-of′.Learnt (λ κs x y e f. x .now ≡ y .now)
+«codes_of» κs a x y e f = one
+
+-- a lent room: the result, and what the room holds at exit
+pub «broadcast_rounds» : Agrees 2 broadcast-rounds.ps broadcast-rounds.r broadcast-rounds′.Learnt (λ κs x y e f. (x ≡ y) × (e .1 .1 .1 .1 .0 .now ≡ f .1 .1 .1 .1 .0 .now))
+«broadcast_rounds» κs a x y e f p q = (one (p .0) (q .0), one (p .1) (q .1))
+
+pub «write_header» : Agrees 1 write-header.ps write-header.r write-header′.Learnt (λ κs x y e f. (x ≡ y) × (e .1 .0 .now ≡ f .1 .0 .now))
+«write_header» κs a x y e f p q = (one (p .0) (q .0), one (p .1) (q .1))
+
+pub «hall_line» : Agrees 1 hall-line.ps hall-line.r hall-line′.Learnt (λ κs x y e f. (x ≡ y) × (e .0 .now ≡ f .0 .now))
+«hall_line» κs a x y e f p q = (one (p .0) (q .0), one (p .1) (q .1))
+
+pub «refused_line» : Agrees 1 refused-line.ps refused-line.r refused-line′.Learnt (λ κs x y e f. (x ≡ y) × (e .0 .now ≡ f .0 .now))
+«refused_line» κs a x y e f p q = (one (p .0) (q .0), one (p .1) (q .1))
+
+pub «end_line» : Agrees 1 end-line.ps end-line.r end-line′.Learnt (λ κs x y e f. (x ≡ y) × (e .0 .now ≡ f .0 .now))
+«end_line» κs a x y e f p q = (one (p .0) (q .0), one (p .1) (q .1))
+
+pub «packet_line» : Agrees 2 packet-line.ps packet-line.r packet-line′.Learnt (λ κs x y e f. (x ≡ y) × (e .0 .now ≡ f .0 .now))
+«packet_line» κs a x y e f p q = (one (p .0) (q .0), one (p .1) (q .1))

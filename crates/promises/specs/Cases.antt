@@ -8,6 +8,8 @@ use Rattle.hall.specs.declared.Hall.{Hall}
 use Rattle.hall.specs.Answers.{sizesOf, uidOf, tupleOf, linkBetween}
 use Rattle.ports.specs.Answers.{checkOf}
 use Rattle.route.specs.Answers.{routeBetween}
+use Rattle.sheet.specs.Answers.{sheetOf}
+use Rattle.sheet.specs.Worked.{sheetWith}
 use Rattle.forward.specs.declared.Packet.{Packet}
 use Rattle.forward.specs.Packets.{drop-ttl, drop-route, drop-retry, drop-proxy, delivered}
 use Rattle.forward.specs.Answers.{journeyOf}
@@ -23,6 +25,7 @@ pub data Asked : Type 0 where
   -- a table, a source and a packet
   journey : Hall → List ℕ → ℕ → Packet → Asked
   check : Hall → List ℕ → Asked
+  night-sheet : List ℕ → Asked
 
 -- the definitions' value, the refusal first; of a route and a journey the links + 1 uids
 abbrev pub value : Asked → List ℕ
@@ -35,6 +38,7 @@ value (journey h table source p) =
     journeyOf h source p table .refusal ∷ journeyOf h source p table .ending ∷ journeyOf h source p table .links ∷ journeyOf h source p table .reroutes
     ∷ take (journeyOf h source p table .links + 1) (journeyOf h source p table .uids)
 value (check h table) = checkOf h table .refusal ∷ checkOf h table .place ∷ []
+value (night-sheet s) = sheetOf s .refusal ∷ sheetOf s .place ∷ []
 
 -- n and k, with b = 0
 abbrev pub hall : ℕ → ℕ → Hall
@@ -69,8 +73,9 @@ cases =
     -- the sheet's table: retry 5 and retry 2 deliver; retry 1, drop 3 at 0
     ∷ (sent (codes 2) 19 5 15, 0 ∷ delivered ∷ 4 ∷ 1 ∷ 0 ∷ 4 ∷ 7 ∷ 17 ∷ 19 ∷ [])
     ∷ (sent (codes 2) 19 2 15, 0 ∷ delivered ∷ 4 ∷ 1 ∷ 0 ∷ 4 ∷ 7 ∷ 17 ∷ 19 ∷ []) ∷ (sent (codes 2) 19 1 15, 0 ∷ drop-retry ∷ 0 ∷ 0 ∷ 0 ∷ [])
-    -- code 7 in place of both 2s: the same journey in a direct call; the table check gives 5 and the first such byte
-    ∷ (sent (codes 7) 19 5 15, 0 ∷ delivered ∷ 4 ∷ 1 ∷ 0 ∷ 4 ∷ 7 ∷ 17 ∷ 19 ∷ []) ∷ (check (hall 4 1) (codes 7), 5 ∷ 7 ∷ [])
+    -- code 7 in place of both 2s: the same journey in a direct call; the sheet gets 5, told at the first such code, and so does the table check
+    ∷ (sent (codes 7) 19 5 15, 0 ∷ delivered ∷ 4 ∷ 1 ∷ 0 ∷ 4 ∷ 7 ∷ 17 ∷ 19 ∷ [])
+    ∷ (night-sheet (sheetWith 7 []), 5 ∷ 18 ∷ []) ∷ (check (hall 4 1) (codes 7), 5 ∷ 7 ∷ [])
     -- all codes 0, retry 5, TTL 15: 0 to 1 drop 2; 0 to 19 drop 4
     ∷ (sent (replicate 40 0) 1 5 15, 0 ∷ drop-route ∷ 0 ∷ 0 ∷ 0 ∷ []) ∷ (sent (replicate 40 0) 19 5 15, 0 ∷ drop-proxy ∷ 0 ∷ 0 ∷ 0 ∷ [])
     ∷ []
