@@ -1,6 +1,7 @@
-//! A journey over the hall table: the uids passed, and the counts.
+//! A journey over the hall table: the uids passed.
 
 use peer::forward::{self, JOURNEY_ROOM};
+use peer::hall::Hall;
 use peer::random::Random;
 use peer::refusal::{FIELD, HALL, LENGTH, NONE, ROOM, UID};
 
@@ -9,77 +10,68 @@ use crate::compare::packets::{any_far, sound_far, Far};
 use crate::compare::room::{told, Room};
 use crate::rattle;
 
-/// The values of the counts: the ending, the links, the reroutes.
-const COUNTS: usize = 3;
+/// The random journeys of a short comparison of each call that makes one.
+pub const JOURNEYS: u32 = 200_000;
+/// The inputs of each case of such a call.
+pub const MEASURED: usize = 64;
+/// The journeys that every comparison tries.
+const TRIED: u32 = 1_000;
 
-/// The calls `calls_journey` and `calls_journey_counts`, each with a room of its own.
+/// The lines of the benchmark for a call that makes a journey.
+pub const JOURNEY_CASES: &[Case<Far>] = &[
+    case::<4, 3, 0, 0>("n 4, k 3, b 0"),
+    case::<4, 3, 1, 5>("n 4, k 3, b 1, 5% down"),
+    case::<8, 2, 0, 0>("n 8, k 2, b 0"),
+    case::<8, 2, 1, 5>("n 8, k 2, b 1, 5% down"),
+    case::<8, 3, 0, 0>("n 8, k 3, b 0"),
+    case::<8, 3, 0, 5>("n 8, k 3, b 0, 5% down"),
+    case::<8, 3, 1, 0>("n 8, k 3, b 1"),
+    case::<8, 3, 1, 5>("n 8, k 3, b 1, 5% down"),
+];
+
+/// The call `calls_journey`.
 pub struct Journey;
 
 impl Call for Journey {
     type Input = Far;
-    type Rooms = (Room<u32>, Room<u32>);
+    type Rooms = Room<u32>;
 
     const NAME: &'static str = "journey";
     const NUMBERS: &'static [u32] = &[NONE, HALL, UID, LENGTH, ROOM, FIELD];
-    const INPUTS: u32 = 200_000;
-    const MEASURED: usize = 64;
-    const CASES: &'static [Case<Far>] = &[
-        case::<4, 3, 0, 0>("n 4, k 3, b 0"),
-        case::<4, 3, 1, 5>("n 4, k 3, b 1, 5% down"),
-        case::<8, 2, 0, 0>("n 8, k 2, b 0"),
-        case::<8, 2, 1, 5>("n 8, k 2, b 1, 5% down"),
-        case::<8, 3, 0, 0>("n 8, k 3, b 0"),
-        case::<8, 3, 0, 5>("n 8, k 3, b 0, 5% down"),
-        case::<8, 3, 1, 0>("n 8, k 3, b 1"),
-        case::<8, 3, 1, 5>("n 8, k 3, b 1, 5% down"),
-    ];
+    const INPUTS: u32 = JOURNEYS;
+    const MEASURED: usize = MEASURED;
+    const CASES: &'static [Case<Far>] = JOURNEY_CASES;
 
     fn any(random: &mut Random) -> Far {
         any_far(random)
     }
 
     fn edges() -> impl Iterator<Item = Far> {
-        let mut random = Random::new(3);
-        (0..1000).map(move |_| any_far(&mut random))
+        tried()
     }
 
-    fn rooms(_: &Far, random: &mut Random) -> Self::Rooms {
-        let uids = Room::any(random, JOURNEY_ROOM, JOURNEY_ROOM + 2);
-        (uids, Room::any(random, COUNTS, COUNTS + 2))
+    fn rooms(_: &Far, random: &mut Random) -> Room<u32> {
+        Room::any(random, JOURNEY_ROOM, JOURNEY_ROOM + 2)
     }
 
-    fn ample_rooms() -> Self::Rooms {
-        (Room::new(JOURNEY_ROOM), Room::new(COUNTS))
+    fn ample_rooms() -> Room<u32> {
+        Room::new(JOURNEY_ROOM)
     }
 
-    fn rattle(at: &Far, (uids, counts): &mut Self::Rooms) -> u32 {
-        let number = rattle::journey(at.hall, at.uid, at.packet, at.flag, &at.table, uids.lent());
-        let other = rattle::journey_counts(
-            at.hall,
-            at.uid,
-            at.packet,
-            at.flag,
-            &at.table,
-            counts.lent(),
-        );
-        first_of(number, other)
+    fn rattle(at: &Far, room: &mut Room<u32>) -> u32 {
+        rattle::journey(at.hall, at.uid, at.packet, at.flag, &at.table, room.lent())
     }
 
-    fn peer(at: &Far, (uids, counts): &mut Self::Rooms) -> u32 {
+    fn peer(at: &Far, room: &mut Room<u32>) -> u32 {
         let answer = forward::journey(at.hall, at.uid, at.packet, &at.table);
-        let number = told(answer.refusal, &answer.uids, uids.lent());
-        let values = [answer.ending, answer.links, answer.reroutes];
-        first_of(number, told(answer.refusal, &values, counts.lent()))
+        told(answer.refusal, &answer.uids, room.lent())
     }
 }
 
-/// The first of two numbers that is a refusal.
-fn first_of(number: u32, other: u32) -> u32 {
-    if number == NONE {
-        other
-    } else {
-        number
-    }
+/// Journeys of one seed, for every comparison.
+pub fn tried() -> impl Iterator<Item = Far> {
+    let mut random = Random::new(3);
+    (0..TRIED).map(move |_| any_far(&mut random))
 }
 
 /// A line of the benchmark: journeys of one hall.
@@ -88,6 +80,6 @@ const fn case<const N: u32, const K: u32, const B: u32, const DOWN: u32>(
 ) -> Case<Far> {
     Case {
         name,
-        draw: |random| sound_far(random, peer::hall::Hall { n: N, k: K, b: B }, DOWN),
+        draw: |random| sound_far(random, Hall { n: N, k: K, b: B }, DOWN),
     }
 }

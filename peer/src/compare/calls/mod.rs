@@ -11,6 +11,7 @@ mod distances;
 mod distances_origin;
 mod driver_route;
 mod journey;
+mod journey_counts;
 mod link;
 mod neighbour;
 mod next_hop;
@@ -57,6 +58,7 @@ pub const CALLS: &[Listed] = &[
     listed::<next_hop::NextHop>(),
     listed::<step::Step>(),
     listed::<journey::Journey>(),
+    listed::<journey_counts::JourneyCounts>(),
     listed::<broadcast::Broadcast>(),
     listed::<read_header::ReadHeader>(),
     listed::<payload::Payload>(),
