@@ -41,7 +41,7 @@ fn put_bytes(bytes: &[u8], room: &mut [u8])
 }
 
 // An answer: its refusal, and its words in the room where there is none.
-fn tell(number: u32, words: &[u32], room: &mut [u32]) -> u32
+pub fn tell(number: u32, words: &[u32], room: &mut [u32]) -> u32
     ensures number { λ r. ⌜ r ≡ told (number, now (words .entry)) (now (room .entry)) ⌝ }
     ensures room { λ _. ⌜ now (room .exit) ≡ written (number, now (words .entry)) (now (room .entry)) ⌝ }
 {
@@ -56,7 +56,7 @@ fn tell(number: u32, words: &[u32], room: &mut [u32]) -> u32
 }
 
 // The same for an answer in bytes.
-fn tell_bytes(number: u32, bytes: &[u8], room: &mut [u8]) -> u32
+pub fn tell_bytes(number: u32, bytes: &[u8], room: &mut [u8]) -> u32
     ensures number { λ r. ⌜ r ≡ told (number, now (bytes .entry)) (now (room .entry)) ⌝ }
     ensures room { λ _. ⌜ now (room .exit) ≡ written (number, now (bytes .entry)) (now (room .entry)) ⌝ }
 {

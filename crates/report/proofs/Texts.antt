@@ -12,6 +12,7 @@ use borrow.Author.Tests.{ltb-true, ltb-false, lt-ltb, le-ltb, eqb-true, eqb-fals
 use Rattle.combine.proofs.Tests.{cases}
 use Rattle.report.specs.declared.PacketReport.{PacketReport}
 use Rattle.report.specs.Rooms.{line-room}
+use Rattle.forward.specs.Packets.{delivered}
 use Rattle.report.specs.Texts.{digitsWithin, decimal, numberWith, endingText, word-delivered, word-drop, space, colon, newline, uidsText, packetHead, packetLine}
 
 -- more digits than there are make no difference
@@ -59,19 +60,19 @@ with-length behind v = length-append (decimal v) (behind ∷ [])
 pub with-fits : (behind v : ℕ) → v < 4294967296 → length (numberWith behind v) ≤ 11
 with-fits behind v h = omega (arith, with-length behind v, decimal-fits v h)
 
-pub ending-delivered : (ending : ℕ) → ending ≡ 0 → endingText ending ≡ word-delivered
+pub ending-delivered : (ending : ℕ) → ending ≡ delivered → endingText ending ≡ word-delivered
 unfolding endingText
-ending-delivered ending e = rw (eq-eqb ending 0 e)
+ending-delivered ending e = rw (eq-eqb ending delivered e)
 
-pub ending-drop : (ending : ℕ) → (ending ≡ 0 → ⊥) → endingText ending ≡ word-drop ++ numberWith space ending
+pub ending-drop : (ending : ℕ) → (ending ≡ delivered → ⊥) → endingText ending ≡ word-drop ++ numberWith space ending
 unfolding endingText
-ending-drop ending ne = rw (ne-eqb ending 0 ne)
+ending-drop ending ne = rw (ne-eqb ending delivered ne)
 
 pub ending-fits : (ending : ℕ) → ending < 4294967296 → length (endingText ending) ≤ 15
 ending-fits ending h =
-    cases (eqb ending 0)
-    (λ q. omega (arith, ap length (ending-delivered ending (eqb-true ending 0 q))))
-    (λ q. omega (arith, ap length (ending-drop ending (eqb-false ending 0 q)), length-append word-drop (numberWith space ending), with-fits space ending h))
+    cases (eqb ending delivered)
+    (λ q. omega (arith, ap length (ending-delivered ending (eqb-true ending delivered q))))
+    (λ q. omega (arith, ap length (ending-drop ending (eqb-false ending delivered q)), length-append word-drop (numberWith space ending), with-fits space ending h))
 
 -- one uid more
 pub uids-more : (uids : List ℕ) (uid : ℕ) → uidsText (uids ++ (uid ∷ [])) ≡ uidsText uids ++ (space ∷ decimal uid)

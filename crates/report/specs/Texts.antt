@@ -7,6 +7,7 @@ use lib.Dec.{eqb, ltb}
 use lib.ListN.{take}
 use Rattle.combine.specs.Tests.{pick}
 use Rattle.hall.specs.declared.Hall.{Hall}
+use Rattle.forward.specs.Packets.{delivered}
 use Rattle.report.specs.declared.PacketReport.{PacketReport}
 
 abbrev pub digit-zero : ℕ
@@ -67,9 +68,9 @@ refusedLine number place = word-refused ++ numberWith space number ++ numberWith
 unfoldable pub endLine : ℕ → List ℕ
 endLine packets = word-end ++ numberWith newline packets
 
--- DELIVERED where the ending is 0, else DROP and its number, and a space
+-- DELIVERED, or DROP and its number, and a space
 unfoldable pub endingText : ℕ → List ℕ
-endingText ending = pick (eqb ending 0) word-delivered (word-drop ++ numberWith space ending)
+endingText ending = pick (eqb ending delivered) word-delivered (word-drop ++ numberWith space ending)
 
 -- a space and a uid, for each
 unfoldable pub uidsText : List ℕ → List ℕ

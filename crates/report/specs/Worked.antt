@@ -2,6 +2,7 @@
 -- Section "The night sheet".
 use mathlib.Core.Path.{_≡_, refl}
 use mathlib.Core.List.{List, [], _∷_, _++_}
+use Rattle.forward.specs.Packets.{delivered}
 use Rattle.report.specs.Texts.{digitsWithin, decimal, numberWith, hallLine, refusedLine, endLine, endingText, uidsText, packetHead, packetLine}
 
 zero-digit : decimal 0 ≡ 48 ∷ []
@@ -22,7 +23,7 @@ unfolding hallLine numberWith decimal digitsWithin
 hall = refl
 
 -- 0 19 DELIVERED 4 1 : 0 4 7 17 19
-packet : packetLine (record { source = 0; dst = 19; ending = 0; links = 4; reroutes = 1 }) (0 ∷ 4 ∷ 7 ∷ 17 ∷ 19 ∷ 0 ∷ 0 ∷ [])
+packet : packetLine (record { source = 0; dst = 19; ending = delivered; links = 4; reroutes = 1 }) (0 ∷ 4 ∷ 7 ∷ 17 ∷ 19 ∷ 0 ∷ 0 ∷ [])
     ≡ 48 ∷ 32 ∷ 49 ∷ 57 ∷ 32 ∷ 68 ∷ 69 ∷ 76 ∷ 73 ∷ 86 ∷ 69 ∷ 82 ∷ 69 ∷ 68 ∷ 32 ∷ 52 ∷ 32 ∷ 49 ∷ 32 ∷ 58
     ∷ 32 ∷ 48 ∷ 32 ∷ 52 ∷ 32 ∷ 55 ∷ 32 ∷ 49 ∷ 55 ∷ 32 ∷ 49 ∷ 57 ∷ 10 ∷ []
 unfolding packetLine packetHead endingText uidsText numberWith decimal digitsWithin

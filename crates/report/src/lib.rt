@@ -27,7 +27,7 @@ pub struct Written {
     pub end: usize,
 }
 
-// What became of a packet: the ending is 0 where it was delivered, else the drop's number.
+// What became of a packet.
 pub struct PacketReport {
     pub source: u32,
     pub dst: u32,

@@ -5,7 +5,9 @@ ghost use lib.Dec.{leb};
 ghost use lib.ListN.{length, take};
 ghost use Rattle.report.specs.Texts.{decimal, numberWith, endingText, packetHead, uidsText};
 ghost use Rattle.report.specs.Rooms.{put, line-room};
+use crate::LINE_ROOM;
 use crate::PacketReport;
+use forward::endings::DELIVERED;
 
 const DIGIT_ZERO: u32 = 48;
 
@@ -17,10 +19,10 @@ const COLON: u8 = 58;
 pub(crate) fn room_behind(length: usize, at: usize) -> bool
     ensures { λ r. ⌜ r ≡ leb (at + line-room) length ⌝ }
 {
-    if length < 2877 {
+    if length < LINE_ROOM {
         return false;
     }
-    at <= length - 2877
+    at <= length - LINE_ROOM
 }
 
 // A text.
@@ -63,13 +65,13 @@ pub(crate) fn put_with(room: &mut [u8], at: usize, v: u32, behind: u8) -> usize
     next + 1
 }
 
-// An ending: 0 for delivery, else the drop's number.
+// An ending: DELIVERED, or DROP and its number.
 pub(crate) fn put_ending(room: &mut [u8], at: usize, ending: u32) -> usize
     requires { ⌜ at + 15 ≤ length (now room) ⌝ }
     ensures next { λ r. ⌜ r ≡ at + length (endingText ending) ⌝ }
     ensures room { λ _. ⌜ now (room .exit) ≡ put (now (room .entry)) at (endingText ending) ⌝ }
 {
-    if ending == 0 {
+    if ending == DELIVERED {
         return put_bytes(room, at, b"DELIVERED ");
     }
     let number_at = put_bytes(room, at, b"DROP");

@@ -1,0 +1,3 @@
+-- The laws.
+pub mod Openings
+pub mod Journeys

@@ -1,0 +1,17 @@
+-- Laws of the first line: which of the two it is.
+use mathlib.Core.Path.{_≡_, refl, sym}
+use mathlib.Core.List.{List}
+use Prim.Native.Nat.{ℕ}
+use lib.Dec.{eqb}
+use borrow.Author.Tests.{eq-eqb, ne-eqb}
+use Rattle.sheet.specs.declared.Sheet.{Sheet}
+use Rattle.report.specs.Texts.{hallLine, refusedLine}
+use Rattle.lines.specs.Traces.{hallRead, openingText}
+
+pub opening-refused : (read : Sheet) → (read .refusal ≡ 0 → ⊥) → openingText read ≡ refusedLine (read .refusal) (read .place)
+unfolding openingText
+opening-refused read d = rw (ne-eqb (read .refusal) 0 d)
+
+pub opening-hall : (read : Sheet) → read .refusal ≡ 0 → openingText read ≡ hallLine (hallRead read)
+unfolding openingText
+opening-hall read e = rw (eq-eqb (read .refusal) 0 e)

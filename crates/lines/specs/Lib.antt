@@ -1,0 +1,2 @@
+-- What the trace of a sheet says, line by line.
+pub mod Traces
