@@ -3,15 +3,15 @@
 use mathlib.Core.Path.{_≡_, refl, sym, _∙_, ap}
 use mathlib.Core.Bool.{Bool, true, false}
 use mathlib.Core.List.{List, [], _∷_}
-use Prim.Native.Nat.{ℕ, zero, suc, _+_, _*_, _≤_, _<_}
+use Prim.Native.Nat.{ℕ, zero, suc, _+_, _-_, _*_, _≤_, _<_}
 use native.Mathlib.Numerals.{add-one}
 use native.Mathlib.Omega.{arith}
 use lib.Dec.{eqb, leb}
-use lib.ListN.{length, getD, drop, drop-of-length-le}
-use lib.Seq.{drop-cons}
+use lib.ListN.{length, getD, take, drop, length-drop, drop-of-length-le}
+use lib.Seq.{drop-cons, drop-drop}
 use borrow.Author.Tests.{eqb-true, eq-eqb, leb-true, le-leb}
 use Rattle.combine.specs.Tests.{pick, both}
-use Rattle.combine.proofs.Tests.{cases, never, both-left, both-right, both-true}
+use Rattle.combine.proofs.Tests.{cases, never, both-left, both-right, both-true, both-false}
 use Rattle.hall.specs.declared.Hall.{Hall}
 use Rattle.ports.specs.Codes.{known, allKnown, firstUnknown, codeOf, up, SameUps}
 
@@ -44,6 +44,57 @@ unknown-next table i h e = rw (add-one i, drop-cons table i 0 h, e) (omega arith
 pub unknown-here : (table : List ℕ) (i : ℕ) → i < length table → known (getD table i 0) ≡ false → i + firstUnknown (drop i table) ≡ i
 unfolding firstUnknown
 unknown-here table i h e = rw (drop-cons table i 0 h, e) (omega arith)
+
+-- a block of known codes is passed as a whole
+unknown-past : (table : List ℕ) (count : ℕ) → count ≤ length table → allKnown (take count table) ≡ true → firstUnknown table ≡ count + firstUnknown (drop count table)
+unfolding firstUnknown allKnown
+unknown-past table zero h e = omega arith
+unknown-past [] (suc count) h e = absurd (omega arith)
+unknown-past (code ∷ codes) (suc count) h e =
+    let k = both-left (known code) (allKnown (take count codes)) e in
+    let w = unknown-past codes count (omega arith) (both-right (known code) (allKnown (take count codes)) e) in
+    rw k (omega (arith, w))
+
+pub unknown-block : (table : List ℕ) (from to : ℕ) → from ≤ to → to ≤ length table → allKnown (take (to - from) (drop from table)) ≡ true
+    → from + firstUnknown (drop from table) ≡ to + firstUnknown (drop to table)
+unknown-block table from to h l e =
+    let d : from + (to - from) ≡ to = omega arith in
+    let p = unknown-past (drop from table) (to - from) (rw (length-drop from table) (omega arith)) e in
+    let q : firstUnknown (drop from table) ≡ to - from + firstUnknown (drop to table) = rw (drop-drop (to - from) from table, d) at p in
+    omega (arith, q)
+
+-- the higher of two codes is known exactly where both are
+known-below : (a b : ℕ) → a ≤ b → known b ≡ true → known a ≡ true
+unfolding known
+known-below a b h e = le-leb a 4 (omega (arith, leb-true b 4 e))
+
+pub higher-first : (a b : ℕ) → b ≤ a → known a ≡ both (known a) (known b)
+higher-first a b h = cases (known a) (λ e. e ∙ sym (both-true (known a) (known b) e (known-below b a h e))) (λ e. rw e)
+
+pub higher-second : (a b : ℕ) → a ≤ b → known b ≡ both (known a) (known b)
+higher-second a b h = cases (known b) (λ e. e ∙ sym (both-true (known a) (known b) (known-below a b h e) e)) (λ e. e ∙ sym (both-false (known a) (known b) e))
+
+-- whether all codes are known, from each place that is reached: by the highest so far, and what is left
+both-joined : (a b c : Bool) → both a (both b c) ≡ both (both a b) c
+both-joined true b c = refl
+both-joined false b c = refl
+
+both-alone : (a : Bool) → both a true ≡ a
+both-alone true = refl
+both-alone false = refl
+
+pub known-start : (codes : List ℕ) → both (known 0) (allKnown (drop 0 codes)) ≡ allKnown codes
+unfolding known
+known-start codes = refl
+
+pub known-next : (codes : List ℕ) (most high i : ℕ) → i < length codes → known high ≡ both (known most) (known (getD codes i 0))
+    → both (known most) (allKnown (drop i codes)) ≡ both (known high) (allKnown (drop (i + 1) codes))
+unfolding allKnown
+known-next codes most high i h e = rw (add-one i, drop-cons codes i 0 h, e) (both-joined (known most) (known (getD codes i 0)) (allKnown (drop (suc i) codes)))
+
+pub known-end : (codes : List ℕ) (most i : ℕ) → length codes ≤ i → both (known most) (allKnown (drop i codes)) ≡ known most
+unfolding allKnown
+known-end codes most i h = rw (drop-of-length-le codes h) (both-alone (known most))
 
 -- the first unknown code stands below the length exactly where one is unknown
 pub all-known : (table : List ℕ) → length table ≤ firstUnknown table → allKnown table ≡ true

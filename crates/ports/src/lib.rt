@@ -5,9 +5,11 @@ ghost use mathlib.Core.Path.{_≡_};
 ghost use mathlib.Core.List.{[]};
 ghost use Prim.Native.Nat.{_+_, _*_, _≤_, _<_};
 ghost use mathlib.Core.Bool.{true};
+ghost use lib.ListN.{drop};
+ghost use Rattle.combine.specs.Tests.{both};
 ghost use Rattle.hall.specs.Cells.{t};
 ghost use Rattle.hall.specs.Halls.{valid};
-ghost use Rattle.ports.specs.Codes.{known, firstUnknown, up};
+ghost use Rattle.ports.specs.Codes.{known, allKnown, firstUnknown, up};
 ghost use Rattle.ports.specs.Answers.{checkOf, partRefusal, partOf};
 use crate::codes::HELD;
 use crate::codes::UP;
@@ -16,6 +18,9 @@ use hall::refusals::BAD_CODE;
 use hall::refusals::BAD_HALL;
 use hall::refusals::BAD_LENGTH;
 use hall::refusals::BAD_UID;
+
+// The codes that the table check looks at together.
+const BLOCK: usize = 256;
 
 // A table check's answer: place is the first unknown code's index where the refusal is BAD_CODE, else 0.
 pub struct TableCheck {
@@ -35,17 +40,67 @@ pub fn is_up(h: Hall, table: &[u8], server: u32, port: u32) -> bool
     }
 }
 
-fn is_known(code: u8) -> bool
+// Whether a code is known.
+pub fn is_known(code: u8) -> bool
     ensures { λ r. ⌜ r ≡ known code ⌝ }
 {
     code <= HELD
+}
+
+// The higher of two codes: known where both are.
+fn higher(a: u8, b: u8) -> u8
+    ensures { λ r. ⌜ known r ≡ both (known a) (known b) ⌝ }
+{
+    if a < b {
+        return b;
+    }
+    a
+}
+
+// Whether every code is known, by the highest: a loop without an early end, so that many codes are looked at together.
+fn all_known(codes: &[u8]) -> bool
+    ensures { λ r. ⌜ r ≡ allKnown (now (codes .entry)) ⌝ }
+{
+    let mut most: u8 = 0;
+    let mut i: usize = 0;
+    while i < codes.len() {
+        most = higher(most, codes[i]);
+        i += 1;
+    }
+    is_known(most)
+}
+
+// Where the block that begins at a place ends, in a table of this length.
+fn block_end(length: usize, from: usize) -> usize
+    requires { ⌜ from < length ⌝ }
+    ensures { λ r. ⌜ (from < r) × (r ≤ length) ⌝ }
+{
+    if length - from < BLOCK {
+        return length;
+    }
+    from + BLOCK
+}
+
+// Where the first block with an unknown code begins; the table's length where there is none.
+fn known_blocks(table: &[u8]) -> usize
+    ensures { λ r. ⌜ r + firstUnknown (drop r (now (table .entry))) ≡ firstUnknown (now (table .entry)) ⌝ }
+{
+    let mut from: usize = 0;
+    while from < table.len() {
+        let to = block_end(table.len(), from);
+        if !all_known(&table[from..to]) {
+            return from;
+        }
+        from = to;
+    }
+    from
 }
 
 // Where the first unknown code stands; the table's length where there is none.
 fn first_unknown(table: &[u8]) -> usize
     ensures { λ r. ⌜ r ≡ firstUnknown (now (table .entry)) ⌝ }
 {
-    let mut i: usize = 0;
+    let mut i = known_blocks(table);
     while i < table.len() {
         if !is_known(table[i]) {
             return i;
@@ -109,14 +164,15 @@ pub fn part_refusal(h: Hall, table: &[u8], uid: u32) -> u32
     0
 }
 
-// t(b), the servers of a DCell(b).
+// t(b), the servers of a DCell(b): b is 0 or 1.
 fn local_servers(h: Hall) -> u32
     requires { ⌜ valid h ≡ true ⌝ }
     ensures { λ r. ⌜ r ≡ t (h .n) (h .b) ⌝ }
 {
-    let sizes = hall::sizes_of(h).t;
-    let b = h.b as usize;
-    sizes[b]
+    if h.b == 0 {
+        return h.n;
+    }
+    (h.n + 1) * h.n
 }
 
 // The part of a hall table that holds a server's DCell(b); empty where it is refused.

@@ -11,7 +11,6 @@ use hall::refusals::BAD_HEADER;
 use hall::refusals::BAD_LENGTH;
 use hall::refusals::BAD_SHEET;
 use hall::refusals::BAD_UID;
-use ports::codes::HELD;
 
 // The highest retry.
 const MOST_RETRY: u8 = 15;
@@ -116,14 +115,14 @@ pub(crate) fn read_code(sheet: &[u8], at: usize) -> Field
     requires { ⌜ (at ≤ length (now sheet)) × (length (now sheet) ≤ longest) ⌝ }
     ensures { λ r. ⌜ r ≡ read code (now (sheet .entry)) at ⌝ }
 {
-    let byte = read_byte(sheet, at);
-    let Field::Value(v, _) = byte else {
-        return byte;
-    };
-    if (HELD as u32) < v {
+    if sheet.len() <= at {
+        return Field::Refused(BAD_SHEET, sheet.len() as u32);
+    }
+    let v = sheet[at];
+    if !ports::is_known(v) {
         return Field::Refused(BAD_CODE, at as u32);
     }
-    byte
+    Field::Value(v as u32, at + 1)
 }
 
 // A uid that has to be below the limit.

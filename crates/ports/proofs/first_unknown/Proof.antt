@@ -1,23 +1,26 @@
 -- `ports::first_unknown` meets its contract: what is passed is known, so the first unknown of what is left is the table's.
-use mathlib.Core.Path.{_≡_, sym, _∙_, ap}
-use Prim.Native.Nat.{ℕ, _+_, _-_, _≤_}
+use mathlib.Core.Path.{_≡_, sym, _∙_}
+use Prim.Native.Nat.{_+_, _-_}
 use native.Mathlib.Omega.{arith}
 use lib.ListN.{length, drop}
 use borrow.Author.Needs.{needs}
 use borrow.Author.Tests.{not-true, not-false}
 use Rattle.ports.specs.Codes.{firstUnknown}
-use Rattle.ports.proofs.Tables.{unknown-start, unknown-next, unknown-here, unknown-end}
+use Rattle.ports.proofs.Tables.{unknown-next, unknown-here, unknown-end}
 use Rattle.ports.proofs.first_unknown.Statement.{statement}
 use Rattle.ports.proofs.first_unknown.Tie as tie
 
 abbrev Inv-loop : tie.InvT-loop
-Inv-loop table i₀ i = (i ≤ length table) × (i + firstUnknown (drop i table) ≡ firstUnknown table)
+Inv-loop table i₀ i = i + firstUnknown (drop i table) ≡ firstUnknown table
 
 abbrev μ-loop : tie.MeasureT-loop
 μ-loop table i₀ i = length table - i
 
+known-blocks-requires : tie.Need-known-blocks-requires Inv-loop μ-loop
+known-blocks-requires c κs = search needs
+
 loop-holds : tie.Need-loop-holds Inv-loop μ-loop
-loop-holds c = (omega arith, unknown-start _)
+loop-holds c = c .known-blocks .ensures
 
 shared-slice-read-is-known : tie.Need-shared-slice-read-is-known Inv-loop μ-loop
 shared-slice-read-is-known c = omega arith
@@ -29,7 +32,7 @@ returns : tie.Need-returns Inv-loop μ-loop
 returns c =
     let k = c .before .is-known in
     let w = c .before .before .before .before in
-    sym (unknown-here _ _ (c .before .before .before .loop-test .taken) (sym (k .ensures) ∙ not-true (k .result) (c .if1 .taken))) ∙ w .loop .inv .1
+    sym (unknown-here _ _ (c .before .before .before .loop-test .taken) (sym (k .ensures) ∙ not-true (k .result) (c .if1 .taken))) ∙ w .loop .inv
 
 add-i : tie.Need-add-i Inv-loop μ-loop
 add-i c = omega arith
@@ -41,10 +44,10 @@ loop-again : tie.Need-loop-again Inv-loop μ-loop
 loop-again c =
     let k = c .before .is-known in
     let w = c .before .before .before .before in
-    (omega arith, sym (unknown-next _ _ (c .before .before .before .loop-test .taken) (sym (k .ensures) ∙ not-false (k .result) (c .if1 .left))) ∙ w .loop .inv .1)
+    sym (unknown-next _ _ (c .before .before .before .loop-test .taken) (sym (k .ensures) ∙ not-false (k .result) (c .if1 .left))) ∙ w .loop .inv
 
 returns-2 : tie.Need-returns-2 Inv-loop μ-loop
-returns-2 c = sym (unknown-end _ _ (c .loop-test .left)) ∙ c .before .loop .inv .1
+returns-2 c = sym (unknown-end _ _ (c .loop-test .left)) ∙ c .before .loop .inv
 
 pub first-unknown-spec : {M : Type 1} → statement M
 first-unknown-spec =
@@ -52,6 +55,7 @@ first-unknown-spec =
     (tie.spec
     Inv-loop
     μ-loop
+    known-blocks-requires
     loop-holds
     shared-slice-read-is-known
     is-known-requires

@@ -1,42 +1,35 @@
--- `ports::local_servers` meets its contract: b is at most k, so a valid hall's sizes hold t(b).
-use mathlib.Core.Path.{_≡_, sym, _∙_, ap}
-use mathlib.Core.Bool.{true}
+-- `ports::local_servers` meets its contract: b is 0 or 1, so a DCell(b) is a switch, or n + 1 of them.
+use mathlib.Core.Path.{_≡_}
+use Prim.Native.Nat.{ℕ, _+_, _*_, _≤_}
+use native.Mathlib.Nat.{mul-le-mul}
 use native.Mathlib.Omega.{arith}
-use lib.ListN.{getD}
-use Prim.Native.Nat.{ℕ}
-use borrow.Author.Needs.{needs}
-use Rattle.combine.proofs.Lists.{getD-upTo}
-use Rattle.hall.specs.declared.Hall.{Hall}
-use Rattle.hall.specs.declared.Sizes.{Sizes}
 use Rattle.hall.specs.Cells.{t}
-use Rattle.hall.specs.Halls.{valid}
-use Rattle.hall.specs.Refusals.{refusal}
-use Rattle.hall.specs.Answers.{sizeAt, sizesOf}
-use Rattle.hall.proofs.Growth.{valid-known, size-at}
+use Rattle.hall.proofs.Growth.{valid-known}
 use Rattle.ports.proofs.local_servers.Statement.{statement}
 use Rattle.ports.proofs.local_servers.Tie as tie
 
-local-size : (h : Hall) (s : Sizes) → valid h ≡ true → s ≡ sizesOf h → getD (s .t) (h .b) 0 ≡ t (h .n) (h .b)
-unfolding refusal
-local-size h s v e =
-    let k = valid-known h v in
-    rw (e, v) (getD-upTo (sizeAt (h .n) (h .k)) 4 (h .b) 0 (omega arith) ∙ size-at (h .n) (h .k) (h .b) (k .b-low))
+of-switch : (n b : ℕ) → b ≡ 0 → n ≡ t n b
+unfolding t
+of-switch n b e = rw e
 
-sizes-of-requires : tie.Need-sizes-of-requires
-sizes-of-requires c κs = search needs
+of-switches : (n b : ℕ) → b ≤ 1 → (b ≡ 0 → ⊥) → (n + 1) * n ≡ t n b
+unfolding t
+of-switches n b l ne = let e : b ≡ 1 = omega arith in rw e
 
-cast-b : tie.Need-cast-b
-cast-b c = search needs
-
-mul-result : tie.Need-mul-result
-mul-result c = search needs
-
-array-read-result : tie.Need-array-read-result
-array-read-result c = let k = valid-known _ (c .before .before .before .pre) in omega arith
+switches-fit : (n : ℕ) → n ≤ 8 → (n + 1) * n ≤ 72
+switches-fit n l = let m : n + 1 ≤ 9 = omega arith in omega (arith, mul-le-mul m l)
 
 returns : tie.Need-returns
-returns c = local-size _ _ (c .before .before .before .pre) (c .before .before .sizes-of .ensures)
+returns c = of-switch _ _ (c .if1 .taken)
+
+add-result : tie.Need-add-result
+add-result c = let v = valid-known _ (c .before .before .before .pre) in omega arith
+
+mul-result : tie.Need-mul-result
+mul-result c = let v = valid-known _ (c .before .before .before .before .pre) in omega (arith, switches-fit _ (v .n-high))
+
+returns-2 : tie.Need-returns-2
+returns-2 c = let v = valid-known _ (c .before .before .before .before .pre) in of-switches _ _ (v .b-high) (c .before .before .if1 .left)
 
 pub local-servers-spec : {M : Type 1} → statement M
-local-servers-spec =
-    tie.close (tie.spec sizes-of-requires cast-b mul-result array-read-result returns)
+local-servers-spec = tie.close (tie.spec returns add-result mul-result returns-2)
