@@ -1,4 +1,4 @@
-//! Compares the proved calls with the separate implementation, measures the one against the other, and works out the paper's Table 1.
+//! Compares the proved calls with the separate implementation, measures the one against the other, and works out the paper's tables.
 
 #![deny(unsafe_code)]
 
@@ -10,13 +10,16 @@ use std::env;
 use std::process::ExitCode;
 use std::time::{SystemTime, UNIX_EPOCH};
 
-use compare::{bench, table1, tally::Effort};
+use compare::failures::{self, Side};
+use compare::{bench, ratios::Form, table1, tally::Effort};
 
 /// How the program is called.
 const USAGE: &str = "\
 usage: peer compare [--seed S] [--long]   compare every call on random inputs
-       peer bench [--seed S]              measure every call against the peer
-       peer table1 [--seed S]             work out the paper's Table 1 with the proved route";
+       peer bench [--seed S] [--markdown] measure every call against the peer
+       peer table1 [--seed S]             work out the paper's Table 1 with the proved route
+       peer failures [--seed S] [--peer]  trace packets around failures with the proved journey (--peer: the peer's),
+                                          beside the paper's Table 2";
 /// The exit status of a call that the usage does not allow.
 const BAD_USAGE: u8 = 2;
 
@@ -24,8 +27,9 @@ const BAD_USAGE: u8 = 2;
 #[derive(Debug, PartialEq, Eq)]
 enum Work {
     Compare { seed: Option<u64>, effort: Effort },
-    Bench { seed: Option<u64> },
+    Bench { seed: Option<u64>, form: Form },
     Table1 { seed: Option<u64> },
+    Failures { seed: Option<u64>, side: Side },
 }
 
 fn main() -> ExitCode {
@@ -44,11 +48,15 @@ fn main() -> ExitCode {
 fn done(work: Work) -> bool {
     match work {
         Work::Compare { seed, effort } => compare::run(seed.unwrap_or_else(fresh_seed), effort),
-        Work::Bench { seed } => {
-            bench::run(seed.unwrap_or_else(fresh_seed));
+        Work::Bench { seed, form } => {
+            bench::run(seed.unwrap_or_else(fresh_seed), form);
             true
         }
         Work::Table1 { seed } => table1::run(seed.unwrap_or_else(fresh_seed)),
+        Work::Failures { seed, side } => {
+            failures::run(seed.unwrap_or_else(fresh_seed), side);
+            true
+        }
     }
 }
 
@@ -57,6 +65,8 @@ fn parse(words: &[String]) -> Option<Work> {
     let (name, mut options) = words.split_first()?;
     let mut seed = None;
     let mut effort = Effort::Short;
+    let mut form = Form::Lines;
+    let mut side = Side::Rattle;
     while let Some((option, behind)) = options.split_first() {
         options = match (option.as_str(), behind.split_first()) {
             ("--seed", Some((number, behind))) => {
@@ -67,13 +77,22 @@ fn parse(words: &[String]) -> Option<Work> {
                 effort = Effort::Long;
                 behind
             }
+            ("--peer", _) if name == "failures" => {
+                side = Side::Peer;
+                behind
+            }
+            ("--markdown", _) if name == "bench" => {
+                form = Form::Markdown;
+                behind
+            }
             _ => return None,
         };
     }
     match name.as_str() {
         "compare" => Some(Work::Compare { seed, effort }),
-        "bench" => Some(Work::Bench { seed }),
+        "bench" => Some(Work::Bench { seed, form }),
         "table1" => Some(Work::Table1 { seed }),
+        "failures" => Some(Work::Failures { seed, side }),
         _ => None,
     }
 }
@@ -106,11 +125,13 @@ mod tests {
             parsed("compare --seed 7 --long"),
             asked(Some(7), Effort::Long)
         );
-        assert_eq!(
-            parsed("bench --seed 7"),
-            Some(Work::Bench { seed: Some(7) })
-        );
+        let benched = |seed, form| Some(Work::Bench { seed, form });
+        assert_eq!(parsed("bench --seed 7"), benched(Some(7), Form::Lines));
+        assert_eq!(parsed("bench --markdown"), benched(None, Form::Markdown));
         assert_eq!(parsed("table1"), Some(Work::Table1 { seed: None }));
+        let failed = |seed, side| Some(Work::Failures { seed, side });
+        assert_eq!(parsed("failures --seed 7"), failed(Some(7), Side::Rattle));
+        assert_eq!(parsed("failures --peer"), failed(None, Side::Peer));
     }
 
     #[test]
@@ -124,6 +145,9 @@ mod tests {
             "compare short",
             "bench --long",
             "table1 --long",
+            "failures --long",
+            "failures --markdown",
+            "bench --peer",
         ];
         for line in lines {
             assert_eq!(parsed(line), None, "{line}");

@@ -5,6 +5,8 @@ use std::iter;
 
 use peer::random::Random;
 
+use super::cases::Case;
+
 /// A call that both implementations have.
 pub trait Call {
     /// What the call is given, its rooms apart.
@@ -21,8 +23,6 @@ pub trait Call {
     const INPUTS: u32 = 200_000;
     /// The inputs of each case; fewer for a slow call.
     const MEASURED: usize = 1024;
-    /// What is measured, a line of the benchmark each.
-    const CASES: &'static [Case<Self::Input>];
 
     /// Any input: sound, at an edge, or damaged.
     fn any(random: &mut Random) -> Self::Input;
@@ -34,16 +34,12 @@ pub trait Call {
     }
     /// Rooms for one input, some of them too short, filled at random.
     fn rooms(input: &Self::Input, random: &mut Random) -> Self::Rooms;
+    /// What is measured, a line of the benchmark each.
+    fn cases() -> Vec<Case<Self::Input>>;
     /// Rooms that are long enough for every input of the cases.
     fn ample_rooms() -> Self::Rooms;
     /// The number that Rattle's side returns; its rooms are left as it leaves them.
     fn rattle(input: &Self::Input, rooms: &mut Self::Rooms) -> u32;
     /// The number that the peer's side returns; its rooms are left as it leaves them.
     fn peer(input: &Self::Input, rooms: &mut Self::Rooms) -> u32;
-}
-
-/// A kind of sound input to measure a call with.
-pub struct Case<Input> {
-    pub name: &'static str,
-    pub draw: fn(&mut Random) -> Input,
 }

@@ -17,13 +17,6 @@ const SUPPOSED_SERVERS: u32 = 20;
 /// A number far above every range, as the highest of all is.
 const HUGE: u32 = 1 << 31;
 
-/// The largest hall.
-pub const LARGEST: Hall = Hall {
-    n: MOST_N,
-    k: MOST_K,
-    b: MOST_B,
-};
-
 /// A server of a hall and a level, as several calls take them.
 #[derive(Debug, Clone, Copy)]
 pub struct Place {
@@ -204,7 +197,12 @@ mod tests {
 
     #[test]
     fn the_edges_of_the_largest_hall_are_the_ends_of_its_cells_and_some_beyond() {
-        let uids = edge_uids(LARGEST);
+        let largest = Hall {
+            n: MOST_N,
+            k: MOST_K,
+            b: MOST_B,
+        };
+        let uids = edge_uids(largest);
         for uid in [
             0,
             7,

@@ -3,12 +3,16 @@
 pub mod bench;
 mod call;
 mod calls;
+mod cases;
 mod chains;
+pub mod failures;
 mod frames;
 mod inputs;
 mod packets;
 mod pairs;
+pub mod ratios;
 mod room;
+mod sums;
 pub mod table1;
 mod tables;
 pub mod tally;

@@ -77,7 +77,7 @@ pub fn sound_near(random: &mut Random, hall: Hall, not_up: u32) -> Near {
     }
 }
 
-/// A packet without a proxy on a journey in a sound hall, with so many in a hundred codes not up around its source.
+/// A packet without a proxy on a journey in a sound hall, with so many in a hundred codes not up.
 pub fn sound_far(random: &mut Random, hall: Hall, not_up: u32) -> Far {
     let (table, uid) = sound_hall_table(random, hall, not_up);
     Far {

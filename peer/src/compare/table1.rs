@@ -4,6 +4,7 @@ use peer::hall::Hall;
 use peer::random::Random;
 
 use super::inputs::servers;
+use super::sums::{Figures, Sums};
 use crate::rattle;
 
 /// A figure that differs from the paper's by more than this is a failure.
@@ -12,9 +13,6 @@ const TOLERANCE: f64 = 0.02;
 const SAMPLE: u32 = 1_000_000;
 /// The highest top level of which all pairs are taken.
 const ALL_PAIRS: u32 = 2;
-
-/// Mean and standard deviation.
-type Figures = [f64; 2];
 
 /// The rows of the paper's table for its routing: n, k, mean and standard deviation.
 const ROWS: [(u32, u32, Figures); 6] = [
@@ -84,42 +82,9 @@ fn sums(h: Hall, count: u32, random: &mut Random) -> Sums {
     sums
 }
 
-/// The count of some numbers, their sum and the sum of their squares.
-#[derive(Debug, Default, PartialEq, Eq)]
-struct Sums {
-    count: u64,
-    sum: u64,
-    squares: u64,
-}
-
-impl Sums {
-    /// Adds a number.
-    fn add(&mut self, number: u32) {
-        let number = u64::from(number);
-        self.count += 1;
-        self.sum += number;
-        self.squares += number * number;
-    }
-
-    /// Mean and standard deviation of the numbers added.
-    fn figures(&self) -> Figures {
-        let [sum, squares] = [self.sum, self.squares].map(|sum| sum as f64 / self.count as f64);
-        [sum, (squares - sum * sum).sqrt()]
-    }
-}
-
 #[cfg(test)]
 mod tests {
     use super::*;
-
-    #[test]
-    fn mean_and_deviation_are_those_of_the_numbers_added() {
-        let mut sums = Sums::default();
-        for number in [2, 4, 4, 4, 5, 5, 7, 9] {
-            sums.add(number);
-        }
-        assert_eq!(sums.figures(), [5.0, 2.0]);
-    }
 
     #[test]
     fn a_figure_too_far_from_the_printed_one_is_told() {

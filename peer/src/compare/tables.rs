@@ -1,9 +1,10 @@
 //! Tables of port codes to call with: of the right length and of wrong ones, with all codes up or most of them not.
 
+use std::collections::BTreeMap;
 use std::fmt::{self, Debug, Formatter};
 use std::iter;
 use std::ops::Deref;
-use std::sync::OnceLock;
+use std::sync::{Mutex, OnceLock, PoisonError};
 
 use peer::hall::{Hall, LEAST_N, MOST_K, MOST_N};
 use peer::ports::UP;
@@ -16,7 +17,7 @@ const MOST_NOT_UP: u32 = 70;
 /// The known codes but the one that is up.
 const NOT_UP: [u8; 4] = [0, 2, 3, 4];
 /// The known codes, from 0 on.
-const KNOWN: u8 = 5;
+pub const KNOWN: u8 = 5;
 /// One table in so many has a wrong length.
 const WRONG_LENGTH: u32 = 8;
 /// The codes of a table for a hall that is none.
@@ -157,22 +158,24 @@ pub fn any_hall_table(random: &mut Random, h: Hall) -> Table {
     }
 }
 
-/// A table of the right length for a hall and one of its servers, with so many in a hundred codes not up around that server, which
-/// has to be a share of the shared tables where the hall is not light.
+/// A table of the right length for a hall, with so many in a hundred codes not up, and one of the hall's servers. Where the hall is not
+/// light the table is drawn once and shared.
 pub fn sound_hall_table(random: &mut Random, h: Hall, not_up: u32) -> (Table, u32) {
-    let count = hall_codes(h);
     let uid = random.below(servers(h).unwrap_or(1));
-    match shared(h) {
-        Some(codes) => (Table::Shared(&codes[..count]), moved(h, uid, not_up)),
-        None => (Table::Own(codes(random, count, not_up)), uid),
+    if light(h) {
+        let codes = codes(random, hall_codes(h), not_up);
+        return (Table::Own(codes), uid);
     }
+    (Table::Shared(shared_sound(h, not_up)), uid)
 }
 
-/// The server at the same place as another in one of the first DCell(2)s, the one that has such a share in the shared table.
-fn moved(h: Hall, uid: u32, not_up: u32) -> u32 {
-    let cell = sizes(h).map_or(1, |t| t[2]);
-    let turn = SHARES.iter().position(|&share| share == not_up);
-    turn.unwrap_or(0) as u32 * cell + uid % cell
+/// The table of a hall that is not light with so many in a hundred codes not up.
+fn shared_sound(h: Hall, not_up: u32) -> &'static [u8] {
+    static TABLES: Mutex<BTreeMap<(u32, u32), &'static [u8]>> = Mutex::new(BTreeMap::new());
+    let mut tables = TABLES.lock().unwrap_or_else(PoisonError::into_inner);
+    let mut random = Random::new(SHARED_SEED);
+    let drawn = || &*codes(&mut random, hall_codes(h), not_up).leak();
+    tables.entry((h.n, not_up)).or_insert_with(drawn)
 }
 
 /// A code that is not up so many times in a hundred.
@@ -220,7 +223,18 @@ mod tests {
         let mut random = Random::new(1);
         let (table, uid) = sound_hall_table(&mut random, h, 5);
         assert_eq!(table.len(), 97_968);
-        assert_eq!(uid / 156, 1);
+        assert!(uid < 24_492);
+    }
+
+    #[test]
+    fn a_table_that_is_shared_has_the_share_that_was_asked() {
+        let h = Hall { n: 3, k: 3, b: 1 };
+        let mut random = Random::new(6);
+        for (share, least, most) in [(0, 0, 0), (5, 4_000, 6_000)] {
+            let (table, _) = sound_hall_table(&mut random, h, share);
+            let not_up = table.iter().filter(|&&code| code != UP).count();
+            assert!((least..=most).contains(&not_up), "{not_up}");
+        }
     }
 
     #[test]

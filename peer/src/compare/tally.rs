@@ -108,7 +108,7 @@ fn own_seed(seed: u64, name: &str) -> u64 {
 #[cfg(test)]
 mod tests {
     use super::*;
-    use crate::compare::call::Case;
+    use crate::compare::cases::Case;
     use crate::compare::room::{told, Room};
 
     /// A call that doubles a number below 10, wrong in a way of its own on Rattle's side.
@@ -129,7 +129,6 @@ mod tests {
         const NAME: &'static str = "doubling";
         const NUMBERS: &'static [u32] = &[0, 2, 6];
         const INPUTS: u32 = 1000;
-        const CASES: &'static [Case<u32>] = &[];
 
         fn any(random: &mut Random) -> u32 {
             random.below(12)
@@ -141,6 +140,10 @@ mod tests {
 
         fn rooms(_: &u32, random: &mut Random) -> Room<u32> {
             Room::any(random, 1, 3)
+        }
+
+        fn cases() -> Vec<Case<u32>> {
+            Vec::new()
         }
 
         fn ample_rooms() -> Room<u32> {

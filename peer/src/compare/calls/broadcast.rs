@@ -6,7 +6,8 @@ use peer::random::Random;
 use peer::refusal::{HALL, LENGTH, NONE, ROOM, SCOPE, UID};
 
 use super::HALL_ROOM;
-use crate::compare::call::{Call, Case};
+use crate::compare::call::Call;
+use crate::compare::cases::{by_share, Case};
 use crate::compare::chains::Chain;
 use crate::compare::inputs::{any_hall, any_uid, around, edge_halls, servers, sizes};
 use crate::compare::room::{told, Room};
@@ -59,19 +60,6 @@ impl Call for Broadcast {
     const NUMBERS: &'static [u32] = &[NONE, HALL, UID, LENGTH, ROOM, SCOPE];
     const INPUTS: u32 = 200_000;
     const MEASURED: usize = 4;
-    const CASES: &'static [Case<Input>] = &[
-        case::<4, 1, 1, 0>("n 4, k 1, scope 1"),
-        case::<4, 2, 2, 0>("n 4, k 2, scope 2"),
-        case::<4, 3, 2, 5>("n 4, k 3, scope 2, 5% down"),
-        case::<8, 1, 1, 0>("n 8, k 1, scope 1"),
-        case::<8, 1, 1, 5>("n 8, k 1, scope 1, 5% down"),
-        case::<8, 2, 0, 0>("n 8, k 2, scope 0"),
-        case::<8, 2, 1, 5>("n 8, k 2, scope 1, 5% down"),
-        case::<8, 2, 2, 0>("n 8, k 2, scope 2"),
-        case::<8, 2, 2, 5>("n 8, k 2, scope 2, 5% down"),
-        case::<8, 3, 2, 0>("n 8, k 3, scope 2"),
-        case::<8, 3, 2, 5>("n 8, k 3, scope 2, 5% down"),
-    ];
 
     fn any(random: &mut Random) -> Input {
         if random.once_in(CHAIN) {
@@ -101,6 +89,10 @@ impl Call for Broadcast {
         let needed = servers_of(input.hall, input.scope).unwrap_or(SUPPOSED_SERVERS);
         let rounds = Room::any(random, needed, needed + needed / 8 + 2);
         (rounds, Room::any(random, VALUES, HALL_ROOM))
+    }
+
+    fn cases() -> Vec<Case<Input>> {
+        (0..=MOST_SCOPE).flat_map(cases_of).collect()
     }
 
     fn ample_rooms() -> Self::Rooms {
@@ -161,21 +153,22 @@ fn edge_inputs(random: &mut Random, hall: Hall) -> Vec<Input> {
     pairs.map(with_table).collect()
 }
 
-/// A line of the benchmark: sources of one hall, in one scope.
-const fn case<const N: u32, const K: u32, const SCOPE: u32, const DOWN: u32>(
-    name: &'static str,
-) -> Case<Input> {
-    Case {
-        name,
-        draw: |random| {
-            let hall = Hall { n: N, k: K, b: 0 };
-            let (table, source) = sound_hall_table(random, hall, DOWN);
-            Input {
-                hall,
-                table,
-                source,
-                scope: SCOPE,
-            }
-        },
+/// The lines of the benchmark for a scope: the halls that have it.
+fn cases_of(scope: u32) -> impl Iterator<Item = Case<Input>> {
+    let cases = by_share(move |random, hall, not_up| sound(random, hall, not_up, scope));
+    let cases = cases
+        .into_iter()
+        .filter(move |case| case.size.is_some_and(|[_, k]| scope <= k));
+    cases.map(move |case| case.also(&format!("scope={scope}")))
+}
+
+/// Any source of a sound hall in a scope, with so many in a hundred codes not up.
+fn sound(random: &mut Random, hall: Hall, not_up: u32, scope: u32) -> Input {
+    let (table, source) = sound_hall_table(random, hall, not_up);
+    Input {
+        hall,
+        table,
+        source,
+        scope,
     }
 }

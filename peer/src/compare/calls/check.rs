@@ -5,10 +5,11 @@ use peer::ports::{self, UP};
 use peer::random::Random;
 use peer::refusal::{CODE, HALL, LENGTH, NONE};
 
-use crate::compare::call::{Call, Case};
+use crate::compare::call::Call;
+use crate::compare::cases::{by_share, Case};
 use crate::compare::inputs::edge_halls;
 use crate::compare::tables::{
-    any_length, codes, hall_codes, known_codes, light, light_hall, unknown_code, Table,
+    any_length, codes, hall_codes, known_codes, light, light_hall, unknown_code, Table, KNOWN,
 };
 use crate::rattle;
 
@@ -29,18 +30,6 @@ pub struct Checked {
     pub table: Table,
 }
 
-/// The lines of the benchmark for both calls of the check. Each code is looked at, whether it is up or not.
-pub const CHECK_CASES: &[Case<Checked>] = &[
-    check_case::<4, 1, 0>("n 4, k 1"),
-    check_case::<4, 2, 0>("n 4, k 2"),
-    check_case::<4, 2, 5>("n 4, k 2, 5% down"),
-    check_case::<4, 3, 0>("n 4, k 3"),
-    check_case::<8, 1, 0>("n 8, k 1"),
-    check_case::<8, 2, 0>("n 8, k 2"),
-    check_case::<8, 2, 5>("n 8, k 2, 5% down"),
-    check_case::<8, 3, 0>("n 8, k 3"),
-];
-
 impl Call for Check {
     type Input = Checked;
     type Rooms = ();
@@ -49,7 +38,6 @@ impl Call for Check {
     const NUMBERS: &'static [u32] = &[NONE, HALL, LENGTH, CODE];
     const INPUTS: u32 = TABLES;
     const MEASURED: usize = 1;
-    const CASES: &'static [Case<Checked>] = CHECK_CASES;
 
     fn any(random: &mut Random) -> Checked {
         Checked::any(random)
@@ -60,6 +48,10 @@ impl Call for Check {
     }
 
     fn rooms(_: &Checked, _: &mut Random) {}
+
+    fn cases() -> Vec<Case<Checked>> {
+        by_share(Checked::sound)
+    }
 
     fn ample_rooms() {}
 
@@ -85,6 +77,14 @@ impl Checked {
                 codes[random.below(count as u32) as usize] = unknown_code(random);
             }
         }
+        let table = Table::Own(codes);
+        Checked { hall, table }
+    }
+
+    /// A sound table of a hall, with so many in a hundred codes not up.
+    pub fn sound(random: &mut Random, hall: Hall, not_up: u32) -> Checked {
+        let mut codes = codes(random, hall_codes(hall), not_up);
+        codes.iter_mut().for_each(|code| *code %= KNOWN);
         let table = Table::Own(codes);
         Checked { hall, table }
     }
@@ -133,22 +133,6 @@ fn all_up_but(hall: Hall, count: usize, but: Option<(usize, u8)>) -> Checked {
     }
     let table = Table::Own(codes);
     Checked { hall, table }
-}
-
-/// A line of the benchmark: a sound table of one hall.
-const fn check_case<const N: u32, const K: u32, const DOWN: u32>(
-    name: &'static str,
-) -> Case<Checked> {
-    Case {
-        name,
-        draw: |random| {
-            let hall = Hall { n: N, k: K, b: 0 };
-            let mut codes = codes(random, hall_codes(hall), DOWN);
-            codes.iter_mut().for_each(|code| *code %= 5);
-            let table = Table::Own(codes);
-            Checked { hall, table }
-        },
-    }
 }
 
 #[cfg(test)]

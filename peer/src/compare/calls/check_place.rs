@@ -4,8 +4,9 @@ use peer::ports;
 use peer::random::Random;
 use peer::refusal::NONE;
 
-use super::check::{Checked, CHECK_CASES, TABLES};
-use crate::compare::call::{Call, Case};
+use super::check::{Checked, TABLES};
+use crate::compare::call::Call;
+use crate::compare::cases::{by_share, Case};
 use crate::compare::room::{told, Room};
 use crate::rattle;
 
@@ -20,7 +21,6 @@ impl Call for CheckPlace {
     const NUMBERS: &'static [u32] = &[NONE];
     const INPUTS: u32 = TABLES;
     const MEASURED: usize = 1;
-    const CASES: &'static [Case<Checked>] = CHECK_CASES;
 
     fn any(random: &mut Random) -> Checked {
         Checked::any(random)
@@ -32,6 +32,10 @@ impl Call for CheckPlace {
 
     fn rooms(_: &Checked, _: &mut Random) -> Room<u32> {
         Room::new(1)
+    }
+
+    fn cases() -> Vec<Case<Checked>> {
+        by_share(Checked::sound)
     }
 
     fn ample_rooms() -> Room<u32> {

@@ -5,7 +5,8 @@ use peer::local::{self, CELL_ROOM};
 use peer::random::Random;
 use peer::refusal::{HALL, LENGTH, NONE, ROOM, UID};
 
-use crate::compare::call::{Call, Case};
+use crate::compare::call::Call;
+use crate::compare::cases::{by_b_and_share, Case};
 use crate::compare::inputs::{any_hall, any_uid, edge_halls, servers, sizes};
 use crate::compare::room::{told, Room};
 use crate::compare::tables::{any_codes, any_length, cell_codes, codes};
@@ -30,22 +31,6 @@ pub struct Local {
     pub codes: Vec<u8>,
 }
 
-/// The lines of the benchmark for a call that searches a cell.
-pub const LOCAL_CASES: &[Case<Local>] = &[
-    local_case::<4, 1, 0, 0>("n 4, k 1, b 0"),
-    local_case::<4, 1, 1, 0>("n 4, k 1, b 1"),
-    local_case::<4, 2, 1, 0>("n 4, k 2, b 1"),
-    local_case::<4, 3, 1, 0>("n 4, k 3, b 1"),
-    local_case::<4, 3, 1, 5>("n 4, k 3, b 1, 5% down"),
-    local_case::<8, 1, 0, 0>("n 8, k 1, b 0"),
-    local_case::<8, 3, 0, 5>("n 8, k 3, b 0, 5% down"),
-    local_case::<8, 1, 1, 0>("n 8, k 1, b 1"),
-    local_case::<8, 2, 1, 0>("n 8, k 2, b 1"),
-    local_case::<8, 2, 1, 5>("n 8, k 2, b 1, 5% down"),
-    local_case::<8, 3, 1, 0>("n 8, k 3, b 1"),
-    local_case::<8, 3, 1, 5>("n 8, k 3, b 1, 5% down"),
-];
-
 impl Call for Distances {
     type Input = Local;
     type Rooms = Room<u8>;
@@ -54,7 +39,6 @@ impl Call for Distances {
     const NUMBERS: &'static [u32] = &[NONE, HALL, LENGTH, UID, ROOM];
     const INPUTS: u32 = SEARCHES;
     const MEASURED: usize = MEASURED;
-    const CASES: &'static [Case<Local>] = LOCAL_CASES;
 
     fn any(random: &mut Random) -> Local {
         Local::any(random)
@@ -66,6 +50,10 @@ impl Call for Distances {
 
     fn rooms(_: &Local, random: &mut Random) -> Room<u8> {
         Room::any(random, CELL_ROOM, CELL_ROOM + 2)
+    }
+
+    fn cases() -> Vec<Case<Local>> {
+        by_b_and_share(Local::sound)
     }
 
     fn ample_rooms() -> Room<u8> {
@@ -122,7 +110,7 @@ impl Local {
     }
 
     /// A server and a target of one cell of a sound hall, with so many in a hundred codes not up.
-    fn sound(random: &mut Random, hall: Hall, not_up: u32) -> Local {
+    pub fn sound(random: &mut Random, hall: Hall, not_up: u32) -> Local {
         let cell = sizes(hall).map_or(1, |t| t[hall.b as usize]);
         let uid = random.below(servers(hall).unwrap_or(1));
         Local {
@@ -139,14 +127,4 @@ fn edge_uids(h: Hall) -> [u32; 7] {
     let count = servers(h).unwrap_or(1);
     let cell = sizes(h).map_or(1, |t| t[h.b as usize]);
     [0, cell - 1, cell, count / 2, count - 1, count, u32::MAX]
-}
-
-/// A line of the benchmark: servers and targets of one hall.
-const fn local_case<const N: u32, const K: u32, const B: u32, const DOWN: u32>(
-    name: &'static str,
-) -> Case<Local> {
-    Case {
-        name,
-        draw: |random| Local::sound(random, Hall { n: N, k: K, b: B }, DOWN),
-    }
 }

@@ -4,9 +4,10 @@ use peer::local;
 use peer::random::Random;
 use peer::refusal::{HALL, LENGTH, NONE, ROOM, UID};
 
-use super::distances::{Local, LOCAL_CASES, MEASURED, SEARCHES};
+use super::distances::{Local, MEASURED, SEARCHES};
 use super::HALL_ROOM;
-use crate::compare::call::{Call, Case};
+use crate::compare::call::Call;
+use crate::compare::cases::{by_b_and_share, Case};
 use crate::compare::room::{told, Room};
 use crate::rattle;
 
@@ -24,7 +25,6 @@ impl Call for DistancesOrigin {
     const NUMBERS: &'static [u32] = &[NONE, HALL, LENGTH, UID, ROOM];
     const INPUTS: u32 = SEARCHES;
     const MEASURED: usize = MEASURED;
-    const CASES: &'static [Case<Local>] = LOCAL_CASES;
 
     fn any(random: &mut Random) -> Local {
         Local::any(random)
@@ -36,6 +36,10 @@ impl Call for DistancesOrigin {
 
     fn rooms(_: &Local, random: &mut Random) -> Room<u32> {
         Room::any(random, VALUES, HALL_ROOM)
+    }
+
+    fn cases() -> Vec<Case<Local>> {
+        by_b_and_share(Local::sound)
     }
 
     fn ample_rooms() -> Room<u32> {

@@ -4,8 +4,8 @@ use peer::random::Random;
 use peer::refusal::{HALL, NONE, ROOM, UID};
 use peer::route::{route, route_words, ROUTE_ROOM, WORD};
 
-use super::route::PAIR_CASES;
-use crate::compare::call::{Call, Case};
+use crate::compare::call::Call;
+use crate::compare::cases::{by_size, Case};
 use crate::compare::pairs::Pair;
 use crate::compare::room::Room;
 use crate::rattle;
@@ -23,7 +23,6 @@ impl Call for DriverRoute {
     const NAME: &'static str = "driver route";
     const NUMBERS: &'static [u32] = &[NONE, HALL, UID, ROOM];
     const INPUTS: u32 = 1_500_000;
-    const CASES: &'static [Case<Pair>] = PAIR_CASES;
 
     fn any(random: &mut Random) -> Pair {
         Pair::any(random)
@@ -40,6 +39,10 @@ impl Call for DriverRoute {
     fn rooms(at: &Pair, random: &mut Random) -> Room<u8> {
         let servers = route(at.hall, at.x, at.y).links as usize + 1;
         at.room(random, servers * WORD, BYTES + 2)
+    }
+
+    fn cases() -> Vec<Case<Pair>> {
+        by_size(Pair::sound)
     }
 
     fn ample_rooms() -> Room<u8> {

@@ -4,9 +4,10 @@ use peer::forward;
 use peer::random::Random;
 use peer::refusal::{FIELD, HALL, LENGTH, NONE, ROOM, UID};
 
-use super::journey::{tried, JOURNEYS, JOURNEY_CASES, MEASURED};
-use crate::compare::call::{Call, Case};
-use crate::compare::packets::{any_far, Far};
+use super::journey::{tried, JOURNEYS, MEASURED};
+use crate::compare::call::Call;
+use crate::compare::cases::{by_b_and_share, Case};
+use crate::compare::packets::{any_far, sound_far, Far};
 use crate::compare::room::{told, Room};
 use crate::rattle;
 
@@ -24,7 +25,6 @@ impl Call for JourneyCounts {
     const NUMBERS: &'static [u32] = &[NONE, HALL, UID, LENGTH, ROOM, FIELD];
     const INPUTS: u32 = JOURNEYS;
     const MEASURED: usize = MEASURED;
-    const CASES: &'static [Case<Far>] = JOURNEY_CASES;
 
     fn any(random: &mut Random) -> Far {
         any_far(random)
@@ -36,6 +36,10 @@ impl Call for JourneyCounts {
 
     fn rooms(_: &Far, random: &mut Random) -> Room<u32> {
         Room::any(random, VALUES, VALUES + 2)
+    }
+
+    fn cases() -> Vec<Case<Far>> {
+        by_b_and_share(sound_far)
     }
 
     fn ample_rooms() -> Room<u32> {

@@ -5,8 +5,9 @@ use peer::random::Random;
 use peer::refusal::{HALL, NONE, RANGE, ROOM, UID};
 
 use super::HALL_ROOM;
-use crate::compare::call::{Call, Case};
-use crate::compare::inputs::{around, sound_hall, sub_cells, Place, LARGEST};
+use crate::compare::call::Call;
+use crate::compare::cases::{by_size, Case};
+use crate::compare::inputs::{around, sub_cells, Place};
 use crate::compare::room::{told, Room};
 use crate::rattle;
 
@@ -38,19 +39,6 @@ impl Call for Link {
 
     const NAME: &'static str = "link";
     const NUMBERS: &'static [u32] = &[NONE, HALL, UID, RANGE, ROOM];
-    const CASES: &'static [Case<Input>] = &[
-        Case {
-            name: "largest hall",
-            draw: |random| sound(random, LARGEST),
-        },
-        Case {
-            name: "any hall",
-            draw: |random| {
-                let hall = sound_hall(random, LEAST_LEVEL);
-                sound(random, hall)
-            },
-        },
-    ];
 
     fn any(random: &mut Random) -> Input {
         let at = Place::any(random);
@@ -73,6 +61,10 @@ impl Call for Link {
 
     fn rooms(_: &Input, random: &mut Random) -> Room<u32> {
         Room::any(random, VALUES, HALL_ROOM)
+    }
+
+    fn cases() -> Vec<Case<Input>> {
+        by_size(sound)
     }
 
     fn ample_rooms() -> Room<u32> {
@@ -122,6 +114,7 @@ fn edge_pairs(at: Place) -> Vec<(u32, u32)> {
 #[cfg(test)]
 mod tests {
     use super::*;
+    use crate::compare::inputs::sound_hall;
 
     #[test]
     fn the_edges_of_a_level_of_few_sub_cells_are_all_pairs_and_some_beyond() {

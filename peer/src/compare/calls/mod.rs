@@ -27,8 +27,9 @@ mod tuple;
 mod uid;
 mod write_header;
 
-use super::bench::{self, Measure};
+use super::bench;
 use super::call::Call;
+use super::ratios::Measure;
 use super::tally::{self, Effort, Tally};
 
 /// A call with its types hidden, to stand in one list with the others.

@@ -5,8 +5,9 @@ use peer::random::Random;
 use peer::refusal::{HALL, NONE, RANGE, ROOM, UID};
 
 use super::HALL_ROOM;
-use crate::compare::call::{Call, Case};
-use crate::compare::inputs::{sound_hall, Place, LARGEST};
+use crate::compare::call::Call;
+use crate::compare::cases::{by_size, Case};
+use crate::compare::inputs::Place;
 use crate::compare::room::{told, Room};
 use crate::rattle;
 
@@ -24,19 +25,6 @@ impl Call for Neighbour {
 
     const NAME: &'static str = "neighbour";
     const NUMBERS: &'static [u32] = &[NONE, HALL, UID, RANGE, ROOM];
-    const CASES: &'static [Case<Place>] = &[
-        Case {
-            name: "largest hall",
-            draw: |random| Place::sound(random, LARGEST, LEAST_LEVEL),
-        },
-        Case {
-            name: "any hall",
-            draw: |random| {
-                let hall = sound_hall(random, LEAST_LEVEL);
-                Place::sound(random, hall, LEAST_LEVEL)
-            },
-        },
-    ];
 
     fn any(random: &mut Random) -> Place {
         Place::any(random)
@@ -48,6 +36,10 @@ impl Call for Neighbour {
 
     fn rooms(_: &Place, random: &mut Random) -> Room<u32> {
         Room::any(random, VALUES, HALL_ROOM)
+    }
+
+    fn cases() -> Vec<Case<Place>> {
+        by_size(|random, hall| Place::sound(random, hall, LEAST_LEVEL))
     }
 
     fn ample_rooms() -> Room<u32> {

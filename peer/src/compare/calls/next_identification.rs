@@ -4,7 +4,8 @@ use peer::frame::next_identification;
 use peer::random::Random;
 use peer::refusal::NONE;
 
-use crate::compare::call::{Call, Case};
+use crate::compare::call::Call;
+use crate::compare::cases::Case;
 use crate::compare::frames::edge_words;
 use crate::compare::room::{told, Room};
 use crate::rattle;
@@ -18,10 +19,6 @@ impl Call for NextIdentification {
 
     const NAME: &'static str = "next id";
     const NUMBERS: &'static [u32] = &[NONE];
-    const CASES: &'static [Case<u32>] = &[Case {
-        name: "any",
-        draw: Random::word,
-    }];
 
     fn any(random: &mut Random) -> u32 {
         random.word()
@@ -33,6 +30,10 @@ impl Call for NextIdentification {
 
     fn rooms(_: &u32, _: &mut Random) -> Room<u32> {
         Room::new(1)
+    }
+
+    fn cases() -> Vec<Case<u32>> {
+        vec![Case::named("any", Random::word)]
     }
 
     fn ample_rooms() -> Room<u32> {

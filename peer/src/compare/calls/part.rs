@@ -5,7 +5,8 @@ use peer::ports;
 use peer::random::Random;
 use peer::refusal::{HALL, LENGTH, NONE, ROOM, UID};
 
-use crate::compare::call::{Call, Case};
+use crate::compare::call::Call;
+use crate::compare::cases::{by_b, Case};
 use crate::compare::inputs::{any_hall, any_uid, edge_halls, servers};
 use crate::compare::room::{told, Room};
 use crate::compare::tables::{any_hall_table, cell_codes, sound_hall_table, Table};
@@ -35,17 +36,6 @@ impl Call for Part {
     const NUMBERS: &'static [u32] = &[NONE, HALL, LENGTH, UID, ROOM];
     const INPUTS: u32 = 60_000;
     const MEASURED: usize = 64;
-    const CASES: &'static [Case<Input>] = &[
-        case::<4, 1, 0>("n 4, k 1, b 0"),
-        case::<4, 1, 1>("n 4, k 1, b 1"),
-        case::<4, 3, 0>("n 4, k 3, b 0"),
-        case::<4, 3, 1>("n 4, k 3, b 1"),
-        case::<8, 1, 0>("n 8, k 1, b 0"),
-        case::<8, 1, 1>("n 8, k 1, b 1"),
-        case::<8, 2, 1>("n 8, k 2, b 1"),
-        case::<8, 3, 0>("n 8, k 3, b 0"),
-        case::<8, 3, 1>("n 8, k 3, b 1"),
-    ];
 
     fn any(random: &mut Random) -> Input {
         let hall = any_hall(random);
@@ -60,6 +50,10 @@ impl Call for Part {
 
     fn rooms(input: &Input, random: &mut Random) -> Room<u8> {
         Room::any(random, cell_codes(input.hall), MOST_CODES + 2)
+    }
+
+    fn cases() -> Vec<Case<Input>> {
+        by_b(sound)
     }
 
     fn ample_rooms() -> Room<u8> {
@@ -94,15 +88,8 @@ fn edge_inputs(random: &mut Random, hall: Hall) -> Vec<Input> {
     uids.map(with_uid).into()
 }
 
-/// A line of the benchmark: any server of one hall.
-const fn case<const N: u32, const K: u32, const B: u32>(name: &'static str) -> Case<Input> {
-    Case {
-        name,
-        draw: |random| {
-            let hall = Hall { n: N, k: K, b: B };
-            let (table, _) = sound_hall_table(random, hall, 0);
-            let uid = random.below(servers(hall).unwrap_or(1));
-            Input { hall, table, uid }
-        },
-    }
+/// Any server of a sound hall, with a table of which all codes are up.
+fn sound(random: &mut Random, hall: Hall) -> Input {
+    let (table, uid) = sound_hall_table(random, hall, 0);
+    Input { hall, table, uid }
 }

@@ -4,7 +4,8 @@ use peer::frame::payload;
 use peer::random::Random;
 use peer::refusal::{NONE, ROOM};
 
-use crate::compare::call::{Call, Case};
+use crate::compare::call::Call;
+use crate::compare::cases::Case;
 use crate::compare::frames::{any_frame, edge_frames, frame, sound_fields};
 use crate::compare::room::{told, Room};
 use crate::rattle;
@@ -22,11 +23,6 @@ impl Call for Payload {
     const NAME: &'static str = "payload";
     const NUMBERS: &'static [u32] = &[NONE, ROOM];
     const INPUTS: u32 = 300_000;
-    const CASES: &'static [Case<Vec<u8>>] = &[
-        case::<false, 0>("no byte"),
-        case::<true, 64>("64 bytes, proxy"),
-        case::<false, 1500>("1,500 bytes"),
-    ];
 
     fn any(random: &mut Random) -> Vec<u8> {
         any_frame(random)
@@ -39,6 +35,14 @@ impl Call for Payload {
     fn rooms(frame: &Vec<u8>, random: &mut Random) -> Room<u8> {
         let needed = payload(frame).len();
         Room::any(random, needed, needed + 4)
+    }
+
+    fn cases() -> Vec<Case<Vec<u8>>> {
+        vec![
+            case("no byte", false, 0),
+            case("64 bytes, proxy", true, 64),
+            case("1,500 bytes", false, 1500),
+        ]
     }
 
     fn ample_rooms() -> Room<u8> {
@@ -55,12 +59,9 @@ impl Call for Payload {
 }
 
 /// A line of the benchmark: sound frames with so long a payload.
-const fn case<const PROXY: bool, const BYTES: u16>(name: &'static str) -> Case<Vec<u8>> {
-    Case {
-        name,
-        draw: |random| {
-            let fields = sound_fields(random, PROXY, BYTES);
-            frame(random, &fields)
-        },
-    }
+fn case(name: &str, proxy: bool, bytes: u16) -> Case<Vec<u8>> {
+    Case::named(name, move |random| {
+        let fields = sound_fields(random, proxy, bytes);
+        frame(random, &fields)
+    })
 }

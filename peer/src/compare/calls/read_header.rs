@@ -4,7 +4,8 @@ use peer::frame::{self, Header};
 use peer::random::Random;
 use peer::refusal::{ADDRESS, CHECKSUM, FIELD, NONE, ROOM, SHORT_FRAME};
 
-use crate::compare::call::{Call, Case};
+use crate::compare::call::Call;
+use crate::compare::cases::Case;
 use crate::compare::frames::{any_frame, edge_frames, frame, sound_fields};
 use crate::compare::room::{told, Room};
 use crate::rattle;
@@ -22,11 +23,6 @@ impl Call for ReadHeader {
     const NAME: &'static str = "read header";
     const NUMBERS: &'static [u32] = &[NONE, ROOM, SHORT_FRAME, FIELD, CHECKSUM, ADDRESS];
     const INPUTS: u32 = 1_000_000;
-    const CASES: &'static [Case<Vec<u8>>] = &[
-        case::<false, 0>("no proxy"),
-        case::<true, 0>("proxy"),
-        case::<false, 1500>("1,500 bytes behind"),
-    ];
 
     fn any(random: &mut Random) -> Vec<u8> {
         any_frame(random)
@@ -38,6 +34,14 @@ impl Call for ReadHeader {
 
     fn rooms(_: &Vec<u8>, random: &mut Random) -> Room<u8> {
         Room::any(random, BYTES, BYTES + 4)
+    }
+
+    fn cases() -> Vec<Case<Vec<u8>>> {
+        vec![
+            case("no proxy", false, 0),
+            case("proxy", true, 0),
+            case("1,500 bytes behind", false, 1500),
+        ]
     }
 
     fn ample_rooms() -> Room<u8> {
@@ -72,12 +76,9 @@ fn words(header: &Header) -> [u32; BYTES / 4] {
 }
 
 /// A line of the benchmark: sound frames with a proxy or without, and so many bytes behind the header.
-const fn case<const PROXY: bool, const BEHIND: u16>(name: &'static str) -> Case<Vec<u8>> {
-    Case {
-        name,
-        draw: |random| {
-            let fields = sound_fields(random, PROXY, BEHIND);
-            frame(random, &fields)
-        },
-    }
+fn case(name: &str, proxy: bool, behind: u16) -> Case<Vec<u8>> {
+    Case::named(name, move |random| {
+        let fields = sound_fields(random, proxy, behind);
+        frame(random, &fields)
+    })
 }

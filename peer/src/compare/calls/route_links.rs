@@ -4,8 +4,8 @@ use peer::random::Random;
 use peer::refusal::NONE;
 use peer::route::route;
 
-use super::route::PAIR_CASES;
-use crate::compare::call::{Call, Case};
+use crate::compare::call::Call;
+use crate::compare::cases::{by_size, Case};
 use crate::compare::pairs::Pair;
 use crate::compare::room::{told, Room};
 use crate::rattle;
@@ -20,7 +20,6 @@ impl Call for RouteLinks {
     const NAME: &'static str = "route links";
     const NUMBERS: &'static [u32] = &[NONE];
     const INPUTS: u32 = 1_500_000;
-    const CASES: &'static [Case<Pair>] = PAIR_CASES;
 
     fn any(random: &mut Random) -> Pair {
         Pair::any(random)
@@ -36,6 +35,10 @@ impl Call for RouteLinks {
 
     fn rooms(_: &Pair, _: &mut Random) -> Room<u32> {
         Room::new(1)
+    }
+
+    fn cases() -> Vec<Case<Pair>> {
+        by_size(Pair::sound)
     }
 
     fn ample_rooms() -> Room<u32> {

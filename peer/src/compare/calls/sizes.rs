@@ -5,8 +5,9 @@ use peer::random::Random;
 use peer::refusal::{HALL, NONE, ROOM};
 
 use super::HALL_ROOM;
-use crate::compare::call::{Call, Case};
-use crate::compare::inputs::{any_hall, edge_halls, sound_hall, LARGEST};
+use crate::compare::call::Call;
+use crate::compare::cases::{by_size, Case};
+use crate::compare::inputs::{any_hall, edge_halls};
 use crate::compare::room::{told, Room};
 use crate::rattle;
 
@@ -19,16 +20,6 @@ impl Call for Sizes {
 
     const NAME: &'static str = "sizes";
     const NUMBERS: &'static [u32] = &[NONE, HALL, ROOM];
-    const CASES: &'static [Case<Hall>] = &[
-        Case {
-            name: "largest hall",
-            draw: |_| LARGEST,
-        },
-        Case {
-            name: "any hall",
-            draw: |random| sound_hall(random, 0),
-        },
-    ];
 
     fn any(random: &mut Random) -> Hall {
         any_hall(random)
@@ -40,6 +31,10 @@ impl Call for Sizes {
 
     fn rooms(_: &Hall, random: &mut Random) -> Room<u32> {
         Room::any(random, LEVELS, HALL_ROOM)
+    }
+
+    fn cases() -> Vec<Case<Hall>> {
+        by_size(|_, hall| hall)
     }
 
     fn ample_rooms() -> Room<u32> {

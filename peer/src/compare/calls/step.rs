@@ -5,7 +5,8 @@ use peer::random::Random;
 use peer::refusal::{FIELD, HALL, LENGTH, NONE, ROOM, UID};
 use peer::route::WORD;
 
-use crate::compare::call::{Call, Case};
+use crate::compare::call::Call;
+use crate::compare::cases::{by_b_and_share, Case};
 use crate::compare::packets::{any_near, sound_near, words_of, Near};
 use crate::compare::room::{told, Room};
 use crate::rattle;
@@ -24,14 +25,6 @@ impl Call for Step {
     const NUMBERS: &'static [u32] = &[NONE, HALL, UID, LENGTH, ROOM, FIELD];
     const INPUTS: u32 = 1_000_000;
     const MEASURED: usize = 128;
-    const CASES: &'static [Case<Near>] = &[
-        case::<4, 3, 0, 0>("n 4, k 3, b 0"),
-        case::<4, 3, 1, 0>("n 4, k 3, b 1"),
-        case::<8, 3, 0, 0>("n 8, k 3, b 0"),
-        case::<8, 3, 0, 5>("n 8, k 3, b 0, 5% down"),
-        case::<8, 3, 1, 0>("n 8, k 3, b 1"),
-        case::<8, 3, 1, 5>("n 8, k 3, b 1, 5% down"),
-    ];
 
     fn any(random: &mut Random) -> Near {
         any_near(random)
@@ -46,6 +39,10 @@ impl Call for Step {
         Room::any(random, BYTES, BYTES + 4)
     }
 
+    fn cases() -> Vec<Case<Near>> {
+        by_b_and_share(sound_near)
+    }
+
     fn ample_rooms() -> Room<u8> {
         Room::new(BYTES)
     }
@@ -57,15 +54,5 @@ impl Call for Step {
     fn peer(at: &Near, room: &mut Room<u8>) -> u32 {
         let answer = forward::step(at.hall, at.uid, at.packet, &at.codes);
         told(answer.refusal, &words_of(&answer), room.lent())
-    }
-}
-
-/// A line of the benchmark: steps of one hall.
-const fn case<const N: u32, const K: u32, const B: u32, const DOWN: u32>(
-    name: &'static str,
-) -> Case<Near> {
-    Case {
-        name,
-        draw: |random| sound_near(random, peer::hall::Hall { n: N, k: K, b: B }, DOWN),
     }
 }

@@ -5,8 +5,9 @@ use peer::random::Random;
 use peer::refusal::{HALL, NONE, ROOM, UID};
 
 use super::HALL_ROOM;
-use crate::compare::call::{Call, Case};
-use crate::compare::inputs::{edge_servers, sound_hall, Place, LARGEST};
+use crate::compare::call::Call;
+use crate::compare::cases::{by_size, Case};
+use crate::compare::inputs::{edge_servers, Place};
 use crate::compare::room::{told, Room};
 use crate::rattle;
 
@@ -26,19 +27,6 @@ impl Call for Tuple {
 
     const NAME: &'static str = "tuple";
     const NUMBERS: &'static [u32] = &[NONE, HALL, UID, ROOM];
-    const CASES: &'static [Case<Input>] = &[
-        Case {
-            name: "largest hall",
-            draw: |random| at(Place::sound(random, LARGEST, 0)),
-        },
-        Case {
-            name: "any hall",
-            draw: |random| {
-                let hall = sound_hall(random, 0);
-                at(Place::sound(random, hall, 0))
-            },
-        },
-    ];
 
     fn any(random: &mut Random) -> Input {
         at(Place::any(random))
@@ -50,6 +38,10 @@ impl Call for Tuple {
 
     fn rooms(_: &Input, random: &mut Random) -> Room<u32> {
         Room::any(random, LEVELS, HALL_ROOM)
+    }
+
+    fn cases() -> Vec<Case<Input>> {
+        by_size(|random, hall| at(Place::sound(random, hall, 0)))
     }
 
     fn ample_rooms() -> Room<u32> {

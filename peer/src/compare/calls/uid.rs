@@ -5,8 +5,9 @@ use peer::random::Random;
 use peer::refusal::{HALL, NONE, RANGE, ROOM};
 
 use super::HALL_ROOM;
-use crate::compare::call::{Call, Case};
-use crate::compare::inputs::{any_hall, around, edge_halls, sizes, sound_hall, LARGEST};
+use crate::compare::call::Call;
+use crate::compare::cases::{by_size, Case};
+use crate::compare::inputs::{any_hall, around, edge_halls, sizes};
 use crate::compare::room::{told, Room};
 use crate::rattle;
 
@@ -31,19 +32,6 @@ impl Call for Uid {
 
     const NAME: &'static str = "uid";
     const NUMBERS: &'static [u32] = &[NONE, HALL, RANGE, ROOM];
-    const CASES: &'static [Case<Input>] = &[
-        Case {
-            name: "largest hall",
-            draw: |random| sound(random, LARGEST),
-        },
-        Case {
-            name: "any hall",
-            draw: |random| {
-                let hall = sound_hall(random, 0);
-                sound(random, hall)
-            },
-        },
-    ];
 
     fn any(random: &mut Random) -> Input {
         let hall = any_hall(random);
@@ -60,6 +48,10 @@ impl Call for Uid {
 
     fn rooms(_: &Input, random: &mut Random) -> Room<u32> {
         Room::any(random, VALUES, HALL_ROOM)
+    }
+
+    fn cases() -> Vec<Case<Input>> {
+        by_size(sound)
     }
 
     fn ample_rooms() -> Room<u32> {
@@ -130,7 +122,7 @@ mod tests {
     #[test]
     fn the_limits_of_a_hall_are_n_and_its_sub_cells_and_1_above_the_top() {
         assert_eq!(limits(Hall { n: 4, k: 1, b: 0 }), [4, 5, 1, 1]);
-        assert_eq!(limits(LARGEST), [8, 9, 73, 5_257]);
+        assert_eq!(limits(Hall { n: 8, k: 3, b: 1 }), [8, 9, 73, 5_257]);
         assert_eq!(limits(Hall { n: 9, k: 1, b: 0 }), [1; 4]);
     }
 

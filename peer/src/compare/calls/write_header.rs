@@ -4,7 +4,8 @@ use peer::frame::{self, Fields, PROXY_BYTES};
 use peer::random::Random;
 use peer::refusal::{ADDRESS, FIELD, NONE, ROOM};
 
-use crate::compare::call::{Call, Case};
+use crate::compare::call::Call;
+use crate::compare::cases::Case;
 use crate::compare::frames::{any_fields, edge_fields, sound_fields, PLAIN, PROXIED};
 use crate::compare::room::Room;
 use crate::rattle;
@@ -32,7 +33,6 @@ impl Call for WriteHeader {
     const NAME: &'static str = "write header";
     const NUMBERS: &'static [u32] = &[NONE, ROOM, FIELD, ADDRESS];
     const INPUTS: u32 = 600_000;
-    const CASES: &'static [Case<Input>] = &[case::<false>("no proxy"), case::<true>("proxy")];
 
     fn any(random: &mut Random) -> Input {
         let mut fields = any_fields(random);
@@ -65,6 +65,10 @@ impl Call for WriteHeader {
 
     fn rooms(input: &Input, random: &mut Random) -> Room<u8> {
         Room::filled(random, input.length)
+    }
+
+    fn cases() -> Vec<Case<Input>> {
+        vec![case("no proxy", false), case("proxy", true)]
     }
 
     fn ample_rooms() -> Room<u8> {
@@ -105,13 +109,10 @@ fn proxies() -> impl Iterator<Item = (Fields, u32)> {
 }
 
 /// A line of the benchmark: sound headers with a proxy or without.
-const fn case<const PROXY: bool>(name: &'static str) -> Case<Input> {
-    Case {
-        name,
-        draw: |random| Input {
-            fields: sound_fields(random, PROXY, 0),
-            has_proxy: PROXY as u32,
-            length: PROXY_BYTES,
-        },
-    }
+fn case(name: &str, proxy: bool) -> Case<Input> {
+    Case::named(name, move |random| Input {
+        fields: sound_fields(random, proxy, 0),
+        has_proxy: u32::from(proxy),
+        length: PROXY_BYTES,
+    })
 }
