@@ -1,17 +1,22 @@
-//! Compares the proved calls with the separate implementation, measures the one against the other, and works out the paper's tables.
+//! Compares the proved calls with the separate implementation, measures the one against the other, works out the paper's tables,
+//! traces a night sheet with the separate implementation alone, and draws the example sheet.
 
 #![deny(unsafe_code)]
 
 mod compare;
+mod example;
 #[allow(unsafe_code)]
 mod rattle;
 
 use std::env;
+use std::io::{self, Read, Write};
 use std::process::ExitCode;
 use std::time::{SystemTime, UNIX_EPOCH};
 
 use compare::failures::{self, Side};
 use compare::{bench, ratios::Form, table1, tally::Effort};
+use peer::report;
+use peer::sheet::SHEET_ROOM;
 
 /// How the program is called.
 const USAGE: &str = "\
@@ -19,7 +24,9 @@ usage: peer compare [--seed S] [--long]   compare every call on random inputs
        peer bench [--seed S] [--markdown] measure every call against the peer
        peer table1 [--seed S]             work out the paper's Table 1 with the proved route
        peer failures [--seed S] [--peer]  trace packets around failures with the proved journey (--peer: the peer's),
-                                          beside the paper's Table 2";
+                                          beside the paper's Table 2
+       peer trace                         trace the sheet on standard input with the peer
+       peer example                       write examples/large.sheet to standard output";
 /// The exit status of a call that the usage does not allow.
 const BAD_USAGE: u8 = 2;
 
@@ -30,6 +37,8 @@ enum Work {
     Bench { seed: Option<u64>, form: Form },
     Table1 { seed: Option<u64> },
     Failures { seed: Option<u64>, side: Side },
+    Trace,
+    Example,
 }
 
 fn main() -> ExitCode {
@@ -57,6 +66,8 @@ fn done(work: Work) -> bool {
             failures::run(seed.unwrap_or_else(fresh_seed), side);
             true
         }
+        Work::Trace => traced().is_ok(),
+        Work::Example => printed(&example::sheet()).is_ok(),
     }
 }
 
@@ -93,8 +104,25 @@ fn parse(words: &[String]) -> Option<Work> {
         "bench" => Some(Work::Bench { seed, form }),
         "table1" => Some(Work::Table1 { seed }),
         "failures" => Some(Work::Failures { seed, side }),
+        "trace" if words.len() == 1 => Some(Work::Trace),
+        "example" if words.len() == 1 => Some(Work::Example),
         _ => None,
     }
+}
+
+/// Prints the peer's trace of the sheet on standard input, of which one byte more than a sheet may have is read.
+fn traced() -> io::Result<()> {
+    let mut sheet = Vec::new();
+    let mut input = io::stdin().lock().take(SHEET_ROOM as u64 + 1);
+    input.read_to_end(&mut sheet)?;
+    printed(&report::trace(&sheet))
+}
+
+/// Writes bytes to standard output.
+fn printed(bytes: &[u8]) -> io::Result<()> {
+    let mut output = io::stdout().lock();
+    output.write_all(bytes)?;
+    output.flush()
 }
 
 /// A seed from the clock.
@@ -132,6 +160,8 @@ mod tests {
         let failed = |seed, side| Some(Work::Failures { seed, side });
         assert_eq!(parsed("failures --seed 7"), failed(Some(7), Side::Rattle));
         assert_eq!(parsed("failures --peer"), failed(None, Side::Peer));
+        assert_eq!(parsed("trace"), Some(Work::Trace));
+        assert_eq!(parsed("example"), Some(Work::Example));
     }
 
     #[test]
@@ -148,6 +178,8 @@ mod tests {
             "failures --long",
             "failures --markdown",
             "bench --peer",
+            "trace --seed 1",
+            "example large",
         ];
         for line in lines {
             assert_eq!(parsed(line), None, "{line}");

@@ -1,4 +1,4 @@
-//! The proved calls, as the static libraries of the crates `calls` and `driver` export them, behind safe functions.
+//! The proved calls, as the static libraries of the crates `calls`, `driver` and `sheetcalls` export them, behind safe functions.
 //!
 //! Nothing checks these declarations against the Rattle source: whoever changes a signature there changes it here. A slice is two
 //! arguments to Rattle, a pointer and a length, and is declared as two. A Rust slice would be one: where a single register is left
@@ -198,6 +198,58 @@ mod foreign {
             room: *mut u8,
             length: usize,
         ) -> u32;
+    }
+
+    #[link(name = "sheetcalls", kind = "static")]
+    unsafe extern "C" {
+        pub fn calls_sheet(sheet: *const u8, bytes: usize, room: *mut u32, length: usize) -> u32;
+        pub fn calls_sheet_place(sheet: *const u8, bytes: usize) -> u32;
+        pub fn calls_sheet_codes(
+            sheet: *const u8,
+            bytes: usize,
+            room: *mut u8,
+            length: usize,
+        ) -> u32;
+        pub fn calls_sheet_packet(
+            sheet: *const u8,
+            bytes: usize,
+            i: u32,
+            room: *mut u32,
+            length: usize,
+        ) -> u32;
+        pub fn calls_sheet_packet_place(sheet: *const u8, bytes: usize, i: u32) -> u32;
+        pub fn calls_opening_line(
+            sheet: *const u8,
+            bytes: usize,
+            at: usize,
+            room: *mut u8,
+            length: usize,
+        ) -> u32;
+        pub fn calls_opening_line_end(
+            sheet: *const u8,
+            bytes: usize,
+            at: usize,
+            room: *mut u8,
+            length: usize,
+        ) -> usize;
+        pub fn calls_journey_line(
+            sheet: *const u8,
+            bytes: usize,
+            i: u32,
+            at: usize,
+            room: *mut u8,
+            length: usize,
+        ) -> u32;
+        pub fn calls_journey_line_end(
+            sheet: *const u8,
+            bytes: usize,
+            i: u32,
+            at: usize,
+            room: *mut u8,
+            length: usize,
+        ) -> usize;
+        pub fn calls_end_line(packets: u32, at: usize, room: *mut u8, length: usize) -> u32;
+        pub fn calls_end_line_end(packets: u32, at: usize, room: *mut u8, length: usize) -> usize;
     }
 }
 
@@ -438,4 +490,77 @@ pub fn journey_counts(
             room.len(),
         )
     }
+}
+
+/// The hall of a sheet and the number of its packets.
+#[inline]
+pub fn sheet(sheet: &[u8], room: &mut [u32]) -> u32 {
+    let (start, length) = (room.as_mut_ptr(), room.len());
+    unsafe { foreign::calls_sheet(sheet.as_ptr(), sheet.len(), start, length) }
+}
+
+/// The place of a sheet's first fault; 0 where there is none.
+#[inline]
+pub fn sheet_place(sheet: &[u8]) -> u32 {
+    unsafe { foreign::calls_sheet_place(sheet.as_ptr(), sheet.len()) }
+}
+
+/// The hall table of a sheet.
+#[inline]
+pub fn sheet_codes(sheet: &[u8], room: &mut [u8]) -> u32 {
+    let (start, length) = (room.as_mut_ptr(), room.len());
+    unsafe { foreign::calls_sheet_codes(sheet.as_ptr(), sheet.len(), start, length) }
+}
+
+/// A packet of a sheet.
+#[inline]
+pub fn sheet_packet(sheet: &[u8], i: u32, room: &mut [u32]) -> u32 {
+    let (start, length) = (room.as_mut_ptr(), room.len());
+    unsafe { foreign::calls_sheet_packet(sheet.as_ptr(), sheet.len(), i, start, length) }
+}
+
+/// The place that the refusal of a packet of a sheet is told at, else 0.
+#[inline]
+pub fn sheet_packet_place(sheet: &[u8], i: u32) -> u32 {
+    unsafe { foreign::calls_sheet_packet_place(sheet.as_ptr(), sheet.len(), i) }
+}
+
+/// The first line of a sheet's trace, written at a place: its refusal.
+#[inline]
+pub fn opening_line(sheet: &[u8], at: usize, room: &mut [u8]) -> u32 {
+    let (start, length) = (room.as_mut_ptr(), room.len());
+    unsafe { foreign::calls_opening_line(sheet.as_ptr(), sheet.len(), at, start, length) }
+}
+
+/// The same line, written in the same way: the place behind it.
+#[inline]
+pub fn opening_line_end(sheet: &[u8], at: usize, room: &mut [u8]) -> usize {
+    let (start, length) = (room.as_mut_ptr(), room.len());
+    unsafe { foreign::calls_opening_line_end(sheet.as_ptr(), sheet.len(), at, start, length) }
+}
+
+/// The line of a packet's journey, written at a place: its refusal.
+#[inline]
+pub fn journey_line(sheet: &[u8], i: u32, at: usize, room: &mut [u8]) -> u32 {
+    let (start, length) = (room.as_mut_ptr(), room.len());
+    unsafe { foreign::calls_journey_line(sheet.as_ptr(), sheet.len(), i, at, start, length) }
+}
+
+/// The same line, written in the same way: the place behind it.
+#[inline]
+pub fn journey_line_end(sheet: &[u8], i: u32, at: usize, room: &mut [u8]) -> usize {
+    let (start, length) = (room.as_mut_ptr(), room.len());
+    unsafe { foreign::calls_journey_line_end(sheet.as_ptr(), sheet.len(), i, at, start, length) }
+}
+
+/// The last line of a trace, written at a place: its refusal.
+#[inline]
+pub fn end_line(packets: u32, at: usize, room: &mut [u8]) -> u32 {
+    unsafe { foreign::calls_end_line(packets, at, room.as_mut_ptr(), room.len()) }
+}
+
+/// The same line, written in the same way: the place behind it.
+#[inline]
+pub fn end_line_end(packets: u32, at: usize, room: &mut [u8]) -> usize {
+    unsafe { foreign::calls_end_line_end(packets, at, room.as_mut_ptr(), room.len()) }
 }

@@ -12,10 +12,12 @@ mod packets;
 mod pairs;
 pub mod ratios;
 mod room;
+mod sheets;
 mod sums;
 pub mod table1;
 mod tables;
 pub mod tally;
+mod texts;
 
 use calls::{Listed, CALLS};
 use tally::{Effort, Tally};
@@ -50,7 +52,7 @@ fn row(call: &Listed, tally: &Tally) -> String {
 
 /// A line of the table, its columns one below the other.
 fn line(call: &str, inputs: &str, met: &str, differences: &str) -> String {
-    format!("{call:<12} | {inputs:>9} | {met:<76} | {differences}")
+    format!("{call:<12} | {inputs:>9} | {met:<92} | {differences}")
 }
 
 /// What is wrong with one call, a text each: the first inputs that differ, numbers never met, and numbers that it cannot give.

@@ -10,19 +10,29 @@ mod check_place;
 mod distances;
 mod distances_origin;
 mod driver_route;
+mod end_line;
 mod journey;
 mod journey_counts;
+mod journey_line;
 mod link;
 mod neighbour;
 mod next_hop;
 mod next_identification;
+mod opening_line;
 mod part;
 mod payload;
+mod program;
 mod read_header;
 mod route;
 mod route_links;
+mod sheet;
+mod sheet_codes;
+mod sheet_packet;
+mod sheet_packet_place;
+mod sheet_place;
 mod sizes;
 mod step;
+mod trace;
 mod tuple;
 mod uid;
 mod write_header;
@@ -65,6 +75,21 @@ pub const CALLS: &[Listed] = &[
     listed::<payload::Payload>(),
     listed::<write_header::WriteHeader>(),
     listed::<next_identification::NextIdentification>(),
+    listed::<sheet::Sheet>(),
+    listed::<sheet_place::SheetPlace>(),
+    listed::<sheet_codes::SheetCodes>(),
+    listed::<sheet_packet::SheetPacket>(),
+    listed::<sheet_packet_place::SheetPacketPlace>(),
+    listed::<opening_line::OpeningLine>(),
+    listed::<journey_line::JourneyLine>(),
+    listed::<end_line::EndLine>(),
+    listed::<trace::Trace<0>>(),
+    listed::<trace::Trace<1>>(),
+    listed::<trace::Trace<2>>(),
+    listed::<trace::Trace<3>>(),
+    listed::<trace::Trace<4>>(),
+    listed::<trace::Trace<5>>(),
+    listed::<program::Program>(),
 ];
 
 /// The longest room that hall's calls are lent, longer than any of their answers.

@@ -1,0 +1,64 @@
+//! The last line of a trace: the number of packets.
+
+use peer::random::Random;
+use peer::refusal::{NONE, ROOM};
+
+use crate::compare::call::Call;
+use crate::compare::cases::Case;
+use crate::compare::texts::{LineRooms, Spot};
+use crate::rattle;
+
+/// The calls `calls_end_line` and `calls_end_line_end`.
+pub struct EndLine;
+
+/// A number of packets and where its line is to be written.
+#[derive(Debug)]
+pub struct Input {
+    packets: u32,
+    spot: Spot,
+}
+
+impl Call for EndLine {
+    type Input = Input;
+    type Rooms = LineRooms;
+
+    const NAME: &'static str = "end line";
+    const NUMBERS: &'static [u32] = &[NONE, ROOM];
+    const INPUTS: u32 = 40_000;
+
+    fn any(random: &mut Random) -> Input {
+        Input {
+            packets: random.word() >> random.below(u32::BITS),
+            spot: Spot::any(random),
+        }
+    }
+
+    fn edges() -> impl Iterator<Item = Input> {
+        let tens = (0..10).map(|digits| 10u32.pow(digits));
+        let numbers = tens.flat_map(|ten| [ten - 1, ten]).chain([u32::MAX]);
+        numbers.flat_map(|packets| Spot::edges().map(move |spot| Input { packets, spot }))
+    }
+
+    fn rooms(input: &Input, random: &mut Random) -> LineRooms {
+        input.spot.rooms(random)
+    }
+
+    fn cases() -> Vec<Case<Input>> {
+        Vec::new()
+    }
+
+    fn ample_rooms() -> LineRooms {
+        LineRooms::ample()
+    }
+
+    fn rattle(input: &Input, rooms: &mut LineRooms) -> u32 {
+        let (packets, at) = (input.packets, input.spot.at);
+        rooms.told = rattle::end_line_end(packets, at, rooms.end.lent());
+        rattle::end_line(packets, at, rooms.number.lent())
+    }
+
+    fn peer(input: &Input, rooms: &mut LineRooms) -> u32 {
+        let line = format!("END {}\n", input.packets);
+        rooms.tell(NONE, line.as_bytes(), input.spot.at)
+    }
+}

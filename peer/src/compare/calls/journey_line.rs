@@ -1,0 +1,79 @@
+//! The line of a packet's journey.
+
+use peer::random::Random;
+use peer::refusal::{CODE, FIELD, HALL, LENGTH, NONE, RANGE, ROOM, SHEET, UID};
+use peer::{report, sheet};
+
+use super::sheet::SHEETS;
+use super::sheet_packet::Picked;
+use crate::compare::call::Call;
+use crate::compare::cases::Case;
+use crate::compare::sheets::alone;
+use crate::compare::texts::{LineRooms, Spot};
+use crate::rattle;
+
+/// The calls `calls_journey_line` and `calls_journey_line_end`.
+pub struct JourneyLine;
+
+/// A sheet, the index of a packet, and where its line is to be written.
+#[derive(Debug)]
+pub struct Input {
+    picked: Picked,
+    spot: Spot,
+}
+
+impl Call for JourneyLine {
+    type Input = Input;
+    type Rooms = LineRooms;
+
+    const NAME: &'static str = "journey line";
+    const NUMBERS: &'static [u32] = &[NONE, HALL, UID, RANGE, LENGTH, CODE, ROOM, FIELD, SHEET];
+    const INPUTS: u32 = SHEETS;
+
+    fn any(random: &mut Random) -> Input {
+        Input {
+            picked: Picked::any(random),
+            spot: Spot::any(random),
+        }
+    }
+
+    fn edges() -> impl Iterator<Item = Input> {
+        let spots = Spot::edges().collect::<Vec<Spot>>().into_iter().cycle();
+        let inputs = Picked::edges().zip(spots);
+        inputs.map(|(picked, spot)| Input { picked, spot })
+    }
+
+    fn rooms(input: &Input, random: &mut Random) -> LineRooms {
+        input.spot.rooms(random)
+    }
+
+    fn cases() -> Vec<Case<Input>> {
+        Vec::new()
+    }
+
+    fn ample_rooms() -> LineRooms {
+        LineRooms::ample()
+    }
+
+    fn rattle(input: &Input, rooms: &mut LineRooms) -> u32 {
+        let (sheet, i, at) = (&input.picked.sheet, input.picked.i, input.spot.at);
+        rooms.told = rattle::journey_line_end(sheet, i, at, rooms.end.lent());
+        rattle::journey_line(sheet, i, at, rooms.number.lent())
+    }
+
+    fn peer(input: &Input, rooms: &mut LineRooms) -> u32 {
+        let (sheet, i) = (&input.picked.sheet, input.picked.i);
+        let refusal = sheet::packet(sheet, i).refusal;
+        if refusal != NONE {
+            return rooms.tell(refusal, &[], input.spot.at);
+        }
+        rooms.tell(NONE, &journey_line(sheet, i), input.spot.at)
+    }
+}
+
+/// The line of a packet's journey in the peer's trace of the sheet with that packet alone.
+fn journey_line(sheet: &[u8], i: u32) -> Vec<u8> {
+    let text = report::trace(&alone(sheet, sheet::codes(sheet).len(), i));
+    let mut lines = text.split_inclusive(|&byte| byte == b'\n');
+    lines.nth(1).unwrap_or_default().to_vec()
+}

@@ -1,0 +1,79 @@
+//! One packet of a sheet.
+
+use peer::random::Random;
+use peer::refusal::{CODE, FIELD, HALL, LENGTH, NONE, RANGE, ROOM, SHEET, UID};
+use peer::sheet;
+
+use super::sheet::SHEETS;
+use crate::compare::call::Call;
+use crate::compare::cases::Case;
+use crate::compare::inputs::around;
+use crate::compare::room::{told, Room};
+use crate::compare::sheets::{any_sheet, edge_sheets, Sheet};
+use crate::rattle;
+
+/// The values of the answer: source, dst, retry and TTL.
+const VALUES: usize = 4;
+
+/// The call `calls_sheet_packet`.
+pub struct SheetPacket;
+
+/// A sheet and the index of a packet that it has or has not.
+#[derive(Debug)]
+pub struct Picked {
+    pub sheet: Sheet,
+    pub i: u32,
+}
+
+impl Call for SheetPacket {
+    type Input = Picked;
+    type Rooms = Room<u32>;
+
+    const NAME: &'static str = "packet";
+    const NUMBERS: &'static [u32] = &[NONE, HALL, UID, RANGE, LENGTH, CODE, ROOM, FIELD, SHEET];
+    const INPUTS: u32 = SHEETS;
+
+    fn any(random: &mut Random) -> Picked {
+        Picked::any(random)
+    }
+
+    fn edges() -> impl Iterator<Item = Picked> {
+        Picked::edges()
+    }
+
+    fn rooms(_: &Picked, random: &mut Random) -> Room<u32> {
+        Room::any(random, VALUES, VALUES + 2)
+    }
+
+    fn cases() -> Vec<Case<Picked>> {
+        Vec::new()
+    }
+
+    fn ample_rooms() -> Room<u32> {
+        Room::new(VALUES)
+    }
+
+    fn rattle(input: &Picked, room: &mut Room<u32>) -> u32 {
+        rattle::sheet_packet(&input.sheet, input.i, room.lent())
+    }
+
+    fn peer(input: &Picked, room: &mut Room<u32>) -> u32 {
+        let answer = sheet::packet(&input.sheet, input.i);
+        let values = [answer.source, answer.dst, answer.retry, answer.ttl];
+        told(answer.refusal, &values, room.lent())
+    }
+}
+
+impl Picked {
+    /// Any sheet, and the index of one of its packets, of the first that it has not, or of one beyond.
+    pub fn any(random: &mut Random) -> Picked {
+        let sheet = any_sheet(random);
+        let i = around(random, sheet::read(&sheet).packets);
+        Picked { sheet, i }
+    }
+
+    /// The sheets at an edge, each with the packet it has mostly.
+    pub fn edges() -> impl Iterator<Item = Picked> {
+        edge_sheets().map(|sheet| Picked { sheet, i: 0 })
+    }
+}
