@@ -7,5 +7,8 @@ pub mod Linked
 pub mod Answers
 pub mod Distance
 pub mod Hops
+pub mod Direct
+pub mod Meets
+pub mod Beside
 pub mod Uids
 pub mod Short

@@ -1,19 +1,20 @@
 // Distances inside a DCell(b) over its usable links, and the next hop that they give.
 ghost use mathlib.Core.Path.{_≡_};
-ghost use mathlib.Core.Bool.{true};
+ghost use mathlib.Core.Bool.{true, false};
 ghost use mathlib.Core.List.{[], _∷_};
 ghost use Prim.Native.Nat.{_+_, _*_, _≤_, _<_};
 ghost use lib.ListN.{length, replicate};
-ghost use Rattle.combine.specs.Tests.{both, anyBelow};
+ghost use Rattle.combine.specs.Tests.{pick, both, anyBelow};
 ghost use Rattle.hall.specs.Refusals.{refusal};
 ghost use Rattle.hall.specs.Cells.{neighbour};
-ghost use Rattle.hall.specs.Halls.{valid, asksHall, asksUid};
+ghost use Rattle.hall.specs.Halls.{valid, servers, asksHall, asksUid};
 ghost use Rattle.ports.specs.Codes.{up};
 ghost use Rattle.ports.specs.Links.{onSwitch, bothUp, switchHas};
 ghost use Rattle.ports.specs.Answers.{asksCell};
 ghost use Rattle.search.specs.Rounds.{new, round};
 ghost use Rattle.local.specs.Local.{places, none, cellSize, linked, recordFrom, hop};
-ghost use Rattle.local.specs.Looks.{reachedBy, onLink, nearerBy};
+ghost use Rattle.local.specs.Lowest.{lowestFrom};
+ghost use Rattle.local.specs.Looks.{reachedBy, onLink, metBy, besideBy, acrossBy, givesBy};
 ghost use Rattle.local.specs.Answers.{distancesOf, nextHopOf};
 use hall::Hall;
 use hall::refusals::BAD_HALL;
@@ -57,22 +58,29 @@ fn cell_size(h: Hall) -> u32
     switches(h) * h.n
 }
 
-// The refusal for a hall, the table of a DCell(b) and a uid, 0 for none.
-fn refused(h: Hall, table: &[u8], uid: u32) -> u32
+// The refusal for a hall of so many servers, the table of a DCell(b) and a uid, 0 for none.
+fn refused_among(h: Hall, size: u32, table: &[u8], uid: u32) -> u32
+    requires { ⌜ size ≡ pick (valid h) (servers h) 0 ⌝ }
     ensures { λ r. ⌜ r ≡ refusal (asksHall h ∷ asksCell h (now (table .entry)) ∷ asksUid h uid ∷ []) ⌝ }
 {
-    let servers = hall::servers_of(h);
-    if servers == 0 {
+    if size == 0 {
         return BAD_HALL;
     }
     let bytes = (cell_size(h) as usize) * ((h.k as usize) + 1);
     if table.len() != bytes {
         return BAD_LENGTH;
     }
-    if servers <= uid {
+    if size <= uid {
         return BAD_UID;
     }
     0
+}
+
+// The refusal for a hall, the table of a DCell(b) and a uid, 0 for none.
+fn refused(h: Hall, table: &[u8], uid: u32) -> u32
+    ensures { λ r. ⌜ r ≡ refusal (asksHall h ∷ asksCell h (now (table .entry)) ∷ asksUid h uid ∷ []) ⌝ }
+{
+    refused_among(h, hall::servers_of(h), table, uid)
 }
 
 // Whether port i of both servers is up.
@@ -265,7 +273,7 @@ fn on_switch(n: u32, x: u32, y: u32) -> bool
 
 // Whether a usable link joins the servers at two places.
 fn is_linked(h: Hall, table: &[u8], x: u32, y: u32) -> bool
-    requires { ⌜ valid h ≡ true ⌝ }
+    requires { ⌜ (valid h ≡ true) × (x < cellSize h) ⌝ }
     ensures { λ r. ⌜ r ≡ linked h (now (table .entry)) x y ⌝ }
 {
     if on_switch(h.n, x, y) {
@@ -274,39 +282,21 @@ fn is_linked(h: Hall, table: &[u8], x: u32, y: u32) -> bool
     if h.b == 0 {
         return false;
     }
-    if hall::neighbour_over(h.n, x) != (y as u64) {
+    if neighbour_place(h.n, x / h.n, x % h.n) != y {
         return false;
     }
     both_up(h, table, 1, x, y)
 }
 
-// Whether z is a usable neighbour of x, and one link nearer to where the distances are from.
-fn is_nearer(h: Hall, table: &[u8], d: &[u8; 72], x: u32, z: u32) -> bool
-    requires { ⌜ (valid h ≡ true) × (x < 72) × (z < 72) ⌝ }
-    ensures { λ r. ⌜ r ≡ nearerBy h (now (table .entry)) (now (d .entry)) x z ⌝ }
+// The lowest server of the switch s that is reached before round r and has its port 0 up, n where there is none.
+fn lowest_giving(h: Hall, table: &[u8], d: &[u8; 72], r: u8, s: u32) -> u32
+    requires { ⌜ s * h .n + h .n ≤ 72 ⌝ }
+    ensures { λ o. ⌜ o ≡ lowestFrom (givesBy h (now (table .entry)) (now (d .entry)) r s) (h .n) 0 ⌝ }
 {
-    let here = x as usize;
-    let far = d[here];
-    if far == 0 {
-        return false;
-    }
-    let there = z as usize;
-    if d[there] != far - 1 {
-        return false;
-    }
-    is_linked(h, table, x, z)
-}
-
-// The place of the next hop from x towards y, the cell's size where there is none.
-fn hop_place(h: Hall, table: &[u8], x: u32, y: u32) -> u32
-    requires { ⌜ (valid h ≡ true) × (x < cellSize h) × (y < cellSize h) ⌝ }
-    ensures { λ r. ⌜ r ≡ hop h (now (table .entry)) x y ⌝ }
-{
-    let count = cell_size(h);
-    let d = distances_from(h, table, y);
+    let first = s * h.n;
     let mut z: u32 = 0;
-    while z < count {
-        if is_nearer(h, table, &d, x, z) {
+    while z < h.n {
+        if gives(h, table, d, r, first + z) {
             return z;
         }
         z += 1;
@@ -314,15 +304,97 @@ fn hop_place(h: Hall, table: &[u8], x: u32, y: u32) -> u32
     z
 }
 
+// The lowest place on the switch of x that meets it, `count` where there is none.
+fn met_beside(h: Hall, table: &[u8], d: &[u8; 72], r: u8, x: u32, count: u32) -> u32
+    requires { ⌜ (valid h ≡ true) × (h .b ≡ 0 → ⊥) × (x < cellSize h) × (count ≡ cellSize h) × (reachedBy (now d) r x ≡ false) ⌝ }
+    ensures { λ o. ⌜ o ≡ lowestFrom (besideBy h (now (table .entry)) (now (d .entry)) r x) (cellSize h) 0 ⌝ }
+{
+    if !ports::is_up(h, table, x, 0) {
+        return count;
+    }
+    let s = x / h.n;
+    let i = lowest_giving(h, table, d, r, s);
+    if i < h.n {
+        return s * h.n + i;
+    }
+    count
+}
+
+// The place across the level-1 link of x where it meets x, else `count`.
+fn met_across(h: Hall, table: &[u8], d: &[u8; 72], r: u8, x: u32, count: u32) -> u32
+    requires { ⌜ (valid h ≡ true) × (h .b ≡ 0 → ⊥) × (x < cellSize h) × (count ≡ cellSize h) ⌝ }
+    ensures { λ o. ⌜ o ≡ lowestFrom (acrossBy h (now (table .entry)) (now (d .entry)) r x) (cellSize h) 0 ⌝ }
+{
+    let y = neighbour_place(h.n, x / h.n, x % h.n);
+    if over_link(h, table, d, r, x, y) {
+        return y;
+    }
+    count
+}
+
+// The lowest place that meets x: it is reached before round r, as x is not, and a usable link joins the two. `count` where there is none.
+fn lowest_met(h: Hall, table: &[u8], d: &[u8; 72], r: u8, x: u32, count: u32) -> u32
+    requires { ⌜ (valid h ≡ true) × (h .b ≡ 0 → ⊥) × (x < cellSize h) × (count ≡ cellSize h) × (reachedBy (now d) r x ≡ false) ⌝ }
+    ensures { λ o. ⌜ o ≡ lowestFrom (metBy h (now (table .entry)) (now (d .entry)) r x) (cellSize h) 0 ⌝ }
+{
+    let beside = met_beside(h, table, d, r, x, count);
+    let across = met_across(h, table, d, r, x, count);
+    if beside < across {
+        return beside;
+    }
+    across
+}
+
+// The place of the next hop from x towards y, which no usable link joins, by a search from y until it meets x; the cell's size where there is none.
+fn searched_hop(h: Hall, table: &[u8], x: u32, y: u32) -> u32
+    requires { ⌜ (valid h ≡ true) × (x < cellSize h) × (y < cellSize h) × (x ≡ y → ⊥) × (linked h (now table) x y ≡ false) × (h .b ≡ 0 → ⊥) ⌝ }
+    ensures { λ o. ⌜ o ≡ hop h (now (table .entry)) x y ⌝ }
+{
+    let count = cell_size(h);
+    let mut d = unreached();
+    let at = y as usize;
+    d[at] = 0;
+    let mut rounds: u8 = 0;
+    while (rounds as u32) < count {
+        if !one_round(h, table, &mut d, rounds) {
+            return count;
+        }
+        rounds += 1;
+        let z = lowest_met(h, table, &d, rounds, x, count);
+        if z < count {
+            return z;
+        }
+    }
+    count
+}
+
+// The place of the next hop from x towards y, the cell's size where there is none: over a usable link y itself, and none else on a lone switch.
+fn hop_place(h: Hall, table: &[u8], x: u32, y: u32) -> u32
+    requires { ⌜ (valid h ≡ true) × (x < cellSize h) × (y < cellSize h) ⌝ }
+    ensures { λ r. ⌜ r ≡ hop h (now (table .entry)) x y ⌝ }
+{
+    if is_linked(h, table, x, y) {
+        return y;
+    }
+    if h.b == 0 {
+        return h.n;
+    }
+    if x == y {
+        return cell_size(h);
+    }
+    searched_hop(h, table, x, y)
+}
+
 // The refusal for a hall, the table of a DCell(b) and two uids, 0 for none.
 fn refused_two(h: Hall, table: &[u8], uid: u32, target: u32) -> u32
     ensures { λ r. ⌜ r ≡ refusal (asksHall h ∷ asksCell h (now (table .entry)) ∷ asksUid h uid ∷ asksUid h target ∷ []) ⌝ }
 {
-    let number = refused(h, table, uid);
+    let servers = hall::servers_of(h);
+    let number = refused_among(h, servers, table, uid);
     if number != 0 {
         return number;
     }
-    if hall::servers_of(h) <= target {
+    if servers <= target {
         return BAD_UID;
     }
     0

@@ -76,6 +76,10 @@ module _ (adj : ℕ → ℕ → Bool) (n none o : ℕ) where
   marks-right h zero s = right-start h
   marks-right h (suc r) s = right-round r (marks adj n none o r) s (marks-right h r (omega arith))
 
+  -- and a round reads who is reached from them
+  pub marks-read : o < n → (r : ℕ) → r < none → (y : ℕ) → y < n → leb (getD (marks adj n none o r) y 0) r ≡ reach adj n o r y
+  marks-read h r s y l = right-reads r (marks adj n none o r) s (marks-right h r s) y l
+
   -- behind all rounds
   pub marks-mean : o < n → (r : ℕ) → r < none → n ≤ suc r → (v : ℕ) → v < n → Means adj n none o v (getD (marks adj n none o r) v 0)
   marks-mean h r s l v i = go (marks-right h r s v i)

@@ -8,4 +8,5 @@ pub mod Least
 pub mod Distance
 pub mod Stops
 pub mod Loop
+pub mod Meets
 pub mod Counts

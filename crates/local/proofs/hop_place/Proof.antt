@@ -1,84 +1,47 @@
--- `local::hop_place` meets its contract. The loop's invariant: what is left of the search for the lowest is the whole search.
-use mathlib.Core.Path.{_≡_, sym, _∙_, ap}
-use Prim.Native.Nat.{ℕ, _≤_, _-_}
-use native.Mathlib.Omega.{arith}
+-- `local::hop_place` meets its contract: over a usable link the target is the next hop; else a lone switch has none, nor has the target itself,
+-- and the search decides.
+use mathlib.Core.Path.{sym, _∙_}
+use mathlib.Core.Logic.{inl}
+use borrow.Author.Needs.{needs}
 use Rattle.hall.proofs.Growth.{valid-known}
-use Rattle.local.specs.Lowest.{lowestFrom}
-use Rattle.local.specs.Local.{cellSize, nearer, hop}
-use Rattle.local.proofs.Sizes.{size-fits}
-use Rattle.local.proofs.Lowest.{lowest-here, lowest-next, lowest-end}
-use Rattle.local.proofs.Linked.{nearer-is}
+use Rattle.local.proofs.Sizes.{size-switch}
+use Rattle.local.proofs.Hops.{hop-none}
+use Rattle.local.proofs.Direct.{hop-direct, hop-lone}
 use Rattle.local.proofs.hop_place.Statement.{statement}
 use Rattle.local.proofs.hop_place.Tie as tie
 
-abbrev Inv-loop : tie.InvT-loop
-Inv-loop h table x y count d z₀ z = (z ≤ count) × (lowestFrom (nearer h table x y) (count - z) z ≡ hop h table x y)
+is-linked-requires : tie.Need-is-linked-requires
+is-linked-requires c κs = (c .before .pre .0, c .before .pre .1)
 
-abbrev μ-loop : tie.MeasureT-loop
-μ-loop h table x y count d z₀ z = count - z
-
-cell-size-requires : tie.Need-cell-size-requires Inv-loop μ-loop
-cell-size-requires c κs = c .before .pre .0
-
-distances-from-requires : tie.Need-distances-from-requires Inv-loop μ-loop
-distances-from-requires c κs = (c .before .before .pre .0, c .before .before .pre .2)
-
-loop-holds : tie.Need-loop-holds Inv-loop μ-loop
-unfolding hop
-loop-holds c =
-    let a = c .before .before .before .args in
-    let e : c .before .cell-size .result - 0 ≡ cellSize (a .h) = omega (arith, c .before .cell-size .ensures) in
-    (omega arith, ap (λ (k : ℕ). lowestFrom (nearer (a .h) (a .table .now) (a .x) (a .y)) k 0) e)
-
-is-nearer-requires : tie.Need-is-nearer-requires Inv-loop μ-loop
-is-nearer-requires c κs =
-    let s = c .before .before .before .before .before .before in
-    let k = size-fits (s .args .h) (valid-known (s .args .h) (s .pre .0)) in
-    let e = c .before .before .before .before .cell-size .ensures in
-    (s .pre .0, omega arith, omega arith)
-
-returns : tie.Need-returns Inv-loop μ-loop
+returns : tie.Need-returns
 returns c =
-    let s = c .before .before .before .before .before .before .before .before in
-    let w = c .before .before .before .before .loop in
-    let f = c .before .before .before .before .before .distances-from in
-    let e = c .before .before .before .before .before .before .cell-size .ensures in
-    let q = sym (nearer-is (s .args .h) (s .args .table .now) (s .args .x) (s .args .y) (w .z) (f .result) (f .ensures) (s .pre .1) (omega arith)) ∙ sym (c .before .is-nearer .ensures) ∙ c .if1 .taken in
-    sym (lowest-here (nearer (s .args .h) (s .args .table .now) (s .args .x) (s .args .y)) _ (w .z) (c .before .before .before .loop-test .taken) q) ∙ w .inv .1
+    let s = c .before .before .before in
+    sym (hop-direct (s .args .h) (s .args .table .now) (valid-known (s .args .h) (s .pre .0)) (s .args .x) (s .args .y) (s .pre .1) (s .pre .2)
+    (sym (c .before .is-linked .ensures) ∙ c .if1 .taken))
 
-add-z : tie.Need-add-z Inv-loop μ-loop
-add-z c = omega arith
-
-loop-less : tie.Need-loop-less Inv-loop μ-loop
-loop-less c = omega arith
-
-loop-again : tie.Need-loop-again Inv-loop μ-loop
-loop-again c =
-    let s = c .before .before .before .before .before .before .before .before in
-    let w = c .before .before .before .before .loop in
-    let f = c .before .before .before .before .before .distances-from in
-    let e = c .before .before .before .before .before .before .cell-size .ensures in
-    let q = sym (nearer-is (s .args .h) (s .args .table .now) (s .args .x) (s .args .y) (w .z) (f .result) (f .ensures) (s .pre .1) (omega arith)) ∙ sym (c .before .is-nearer .ensures) ∙ c .if1 .left in
-    (omega arith, lowest-next (nearer (s .args .h) (s .args .table .now) (s .args .x) (s .args .y)) _ (w .z) (c .before .before .before .loop-test .taken) q ∙ w .inv .1)
-
-returns-2 : tie.Need-returns-2 Inv-loop μ-loop
+returns-2 : tie.Need-returns-2
 returns-2 c =
     let s = c .before .before .before .before .before in
-    let w = c .before .loop in
-    sym (lowest-end (nearer (s .args .h) (s .args .table .now) (s .args .x) (s .args .y)) _ (w .z) (c .loop-test .left)) ∙ w .inv .1
+    sym (hop-lone (s .args .h) (s .args .table .now) (valid-known (s .args .h) (s .pre .0)) (s .args .x) (s .args .y) (s .pre .1) (s .pre .2) (c .if2 .taken)
+    (sym (c .before .before .before .is-linked .ensures) ∙ c .before .before .if1 .left) ∙ size-switch (s .args .h) (c .if2 .taken))
+
+cell-size-requires : tie.Need-cell-size-requires
+cell-size-requires c κs = search needs
+
+returns-3 : tie.Need-returns-3
+returns-3 c =
+    let s = c .before .before .before .before .before .before .before in
+    c .cell-size .ensures
+    ∙ sym (hop-none (s .args .h) (s .args .table .now) (valid-known (s .args .h) (s .pre .0)) (s .args .x) (s .args .y) (s .pre .1) (s .pre .2) (inl (c .before .if3 .taken)))
+
+searched-hop-requires : tie.Need-searched-hop-requires
+searched-hop-requires c κs =
+    let s = c .before .before .before .before .before .before in
+    (s .pre .0, s .pre .1, s .pre .2, c .if3 .left, sym (c .before .before .before .before .is-linked .ensures) ∙ c .before .before .before .if1 .left, c .before .if2 .left)
+
+returns-4 : tie.Need-returns-4
+returns-4 c = search needs
 
 pub hop-place-spec : {M : Type 1} → statement M
 hop-place-spec =
-    tie.close
-    (tie.spec
-    Inv-loop
-    μ-loop
-    cell-size-requires
-    distances-from-requires
-    loop-holds
-    is-nearer-requires
-    returns
-    add-z
-    loop-less
-    loop-again
-    returns-2)
+    tie.close (tie.spec is-linked-requires returns returns-2 cell-size-requires returns-3 searched-hop-requires returns-4)
