@@ -1,12 +1,6 @@
-// The port codes by name; all other values are unknown.
+// The port codes that code tells apart: 0 (not fitted), 2 (down) and 3 (silent past its timeout) are known too, all other values unknown.
 
-// No port is fitted there.
-pub const NOT_FITTED: u8 = 0;
 // The one code that counts as up.
 pub const UP: u8 = 1;
-
-pub const DOWN: u8 = 2;
-// Silent past its timeout.
-pub const SILENT: u8 = 3;
-// Held for tests.
+// Held for tests; the highest code that is known.
 pub const HELD: u8 = 4;

@@ -97,7 +97,7 @@ fn known_blocks(table: &[u8]) -> usize
 }
 
 // Where the first unknown code stands; the table's length where there is none.
-fn first_unknown(table: &[u8]) -> usize
+pub fn first_unknown(table: &[u8]) -> usize
     ensures { λ r. ⌜ r ≡ firstUnknown (now (table .entry)) ⌝ }
 {
     let mut i = known_blocks(table);

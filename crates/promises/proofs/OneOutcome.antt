@@ -28,6 +28,8 @@ use Rattle.hall.proofs.ends_over.Kinds as ends-over
 use Rattle.hall.proofs.ends_over.Reads as ends-over′
 use Rattle.ports.proofs.is_known.Kinds as is-known
 use Rattle.ports.proofs.is_known.Reads as is-known′
+use Rattle.ports.proofs.first_unknown.Kinds as first-unknown
+use Rattle.ports.proofs.first_unknown.Reads as first-unknown′
 use Rattle.ports.proofs.is_up.Kinds as is-up
 use Rattle.ports.proofs.is_up.Reads as is-up′
 use Rattle.ports.proofs.check_table.Kinds as check-table
@@ -124,6 +126,9 @@ pub «ends_over» : OneResult 0 ends-over.ps ends-over.r ends-over′.Learnt
 -- crate `ports`: the result
 pub «is_known» : OneResult 0 is-known.ps is-known.r is-known′.Learnt
 «is_known» κs a x y e f = one
+
+pub «first_unknown» : OneResult 1 first-unknown.ps first-unknown.r first-unknown′.Learnt
+«first_unknown» κs a x y e f = one
 
 pub «is_up» : OneResult 1 is-up.ps is-up.r is-up′.Learnt
 «is_up» κs a x y e f = one

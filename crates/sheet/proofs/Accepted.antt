@@ -17,7 +17,7 @@ use Rattle.sheet.specs.declared.Field.the-variants.{Value, Refused}
 use Rattle.sheet.specs.Formats.{Format, done, field, and-then, value, read}
 use Rattle.sheet.specs.Sheets.{any, count, number-n, number-k, number-b, code, uid, retry, times, codes, packet, packets, tablesOf, nightSheet}
 use Rattle.sheet.specs.Answers.{hallOf}
-use Rattle.sheet.proofs.Reading.{onward, read-done, read-sound, read-wrong, read-cut, read-cases, read-then, field-read, then-value, any-there, valid-read}
+use Rattle.sheet.proofs.Reading.{onward, read-done, read-sound, read-wrong, read-cut, read-cases, read-then, field-read, then-value, any-there, times-none, valid-read}
 
 -- a format behind another that was read to its end: so was each
 onward-value : (r : Field) (k : ℕ → ℕ → Field) (v next : ℕ) → onward r k ≡ Value v next
@@ -121,19 +121,31 @@ module _ (f : Format) (width : ℕ) (s : List ℕ) (wide : (at v next : ℕ) →
       let q : at + width * suc i ≡ a .1 + width * i = omega (arith, wide at (a .0) (a .1) (a .2)) in
       (b .0, b .1, rw q (b .2))
 
-  -- all are read where each is
-  pub times-all : (so-many at : ℕ) → ((i : ℕ) → i < so-many → (u : ℕ) × (m : ℕ) × (read f s (at + width * i) ≡ Value u m))
-      → read (times so-many f) s at ≡ Value 0 (at + width * so-many)
+  -- reading goes on behind the first ones, where each of them is read
+  pub times-past : (i rest at : ℕ) → ((j : ℕ) → j < i → (u : ℕ) × (m : ℕ) × (read f s (at + width * j) ≡ Value u m))
+      → read (times (i + rest) f) s at ≡ read (times rest f) s (at + width * i)
   unfolding times
-  times-all zero at each = let q : at + width * 0 ≡ at = omega arith in rw q (read-done 0 s at)
-  times-all (suc rest) at each =
+  times-past zero rest at each =
+      let q : at + width * 0 ≡ at = omega arith in
+      let p : 0 + rest ≡ rest = omega arith in
+      rw (q, p)
+  times-past (suc i) rest at each =
       let a = each 0 (omega arith) in
       let z : at + width * 0 ≡ at = omega arith in
       let e : read f s at ≡ Value (a .0) (a .1) = rw z at (a .2) in
       let w = wide at (a .0) (a .1) e in
-      let n : at + width * suc rest ≡ at + width + width * rest = omega arith in
-      then-value f (λ x. times rest f) s at (a .0) (a .1) e
-      ∙ rw (w, n) (times-all rest (at + width) (λ i l.
-      let b = each (suc i) (omega arith) in
-      let p : at + width + width * i ≡ at + width * suc i = omega arith in
+      let n : at + width * suc i ≡ at + width + width * i = omega arith in
+      let p : suc i + rest ≡ suc (i + rest) = omega arith in
+      ap (λ (m : ℕ). read (times m f) s at) p
+      ∙ then-value f (λ x. times (i + rest) f) s at (a .0) (a .1) e
+      ∙ rw (w, n) (times-past i rest (at + width) (λ j l.
+      let b = each (suc j) (omega arith) in
+      let p : at + width + width * j ≡ at + width * suc j = omega arith in
       (b .0, b .1, rw p (b .2))))
+
+  -- all are read where each is
+  pub times-all : (so-many at : ℕ) → ((i : ℕ) → i < so-many → (u : ℕ) × (m : ℕ) × (read f s (at + width * i) ≡ Value u m))
+      → read (times so-many f) s at ≡ Value 0 (at + width * so-many)
+  times-all so-many at each =
+      let q : so-many ≡ so-many + 0 = omega arith in
+      ap (λ (n : ℕ). read (times n f) s at) q ∙ times-past so-many 0 at each ∙ sym (times-none f s (at + width * so-many))

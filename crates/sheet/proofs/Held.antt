@@ -20,9 +20,10 @@ use Rattle.sheet.specs.Formats.{Format, done, field, and-then, value, re
 use Rattle.sheet.specs.Sheets.{longest, any, count, number-n, number-k, number-b, code, uid, retry, times, codes, packet, packets, tablesOf, nightSheet}
 use Rattle.sheet.specs.Answers.{hallOf, sheetOf, refusedAt, packetPlace}
 use Rattle.sheet.specs.Accepted.{packetCountOf, PacketFits, Accepted}
-use Rattle.sheet.proofs.Reading.{placeOf, read-done, read-sound, read-wrong, read-cut, read-cases, field-read, then-value, any-there, within}
+use Rattle.sheet.proofs.Reading.{placeOf, read-done, read-sound, read-wrong, read-cut, read-cases, field-read, field-sound, then-value, any-there, within}
 use Rattle.sheet.proofs.Sheets.{sheet-long, sheet-refused, sheet-surplus, sheet-accepted, sheet-read}
 use Rattle.sheet.proofs.Accepted.{then-read, field-then, then-sound, packet-read, packet-sound, times-width, times-each, times-all}
+use Rattle.sheet.proofs.Codes.{code-width}
 
 -- a format whose refusals all have a number
 pub data Numbered : Format → Type 0 where
@@ -100,10 +101,7 @@ accepted-read s ok =
         let z : end ≡ length s = omega (arith, ltb-false end (length s) q, ap placeOf e) in
         (v, e ∙ ap (λ (m : ℕ). Value v m) z))
 
--- a code takes one byte, a packet ten
-code-width : (s : List ℕ) (at v next : ℕ) → read code s at ≡ Value v next → next ≡ at + 1
-code-width s at v next e = field-read 1 known bad-code s at v next e .3
-
+-- a packet takes ten bytes
 packet-width : (limit : ℕ) (s : List ℕ) (at v next : ℕ) → read (packet limit) s at ≡ Value v next → next ≡ at + 10
 packet-width limit s at v next e = packet-read limit s at v next e .next-place
 
@@ -158,11 +156,6 @@ accepted-holds s ok =
     let r = accepted-read s ok in
     let w = whole-read s (r .1 .0) (length s) (r .1 .1) in
     record { short = r .0; first = w .first; hall = w .hall; second = w .second; codes = w .codes; packets = w .packets; whole = w .ends }
-
--- a whole and sound field by itself
-field-sound : (width : ℕ) (sound : ℕ → Bool) (number : ℕ) (s : List ℕ) (at : ℕ) → at + width ≤ length s → sound (value s at width) ≡ true
-    → read (field width sound number done) s at ≡ Value (value s at width) (at + width)
-field-sound width sound number s at h t = read-sound s width sound number done at h t ∙ read-done (value s at width) s (at + width)
 
 -- the hall's fields where it is valid
 hall-fields : (h : Hall) → valid h ≡ true → (nFits (h .n) ≡ true) × (kFits (h .n) (h .k) ≡ true) × (bFits (h .k) (h .b) ≡ true)

@@ -2,6 +2,7 @@
 pub mod Reading
 pub mod Sheets
 pub mod Accepted
+pub mod Codes
 pub mod Faults
 pub mod Held
 pub mod Encoding

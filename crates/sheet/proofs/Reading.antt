@@ -188,6 +188,11 @@ field-read width sound number s at v next e =
     (λ h. let q : Value v next ≡ Refused bad-sheet (length s) = sym e ∙ read-cut s width sound number done at h in
     let z : _≡_ {A = ℕ} 0 1 = cc q in absurd (omega arith))
 
+-- a whole and sound field by itself
+pub field-sound : (width : ℕ) (sound : ℕ → Bool) (number : ℕ) (s : List ℕ) (at : ℕ) → at + width ≤ length s → sound (value s at width) ≡ true
+    → read (field width sound number done) s at ≡ Value (value s at width) (at + width)
+field-sound width sound number s at h t = read-sound s width sound number done at h t ∙ read-done (value s at width) s (at + width)
+
 -- a hall whose n, k and b were read is valid
 pub valid-read : (s : List ℕ) (n k b at-n at-k at-b next-n next-k next-b : ℕ)
     → read number-n s at-n ≡ Value n next-n → read (number-k n) s at-k ≡ Value k next-k → read (number-b k) s at-b ≡ Value b next-b

@@ -17,9 +17,10 @@ use crate::fields::read_retry;
 use crate::fields::read_uid;
 use crate::fields::read_word;
 use hall::Hall;
+use hall::refusals::BAD_CODE;
 
-// The hall table of so many bytes.
-fn read_codes(sheet: &[u8], at: usize, count: u32) -> Field
+// The hall table of so many bytes, one code after the other: for a sheet that is cut within it.
+fn read_cut_codes(sheet: &[u8], at: usize, count: u32) -> Field
     requires { ⌜ (at ≤ length (now sheet)) × (length (now sheet) ≤ longest) ⌝ }
     ensures { λ r. ⌜ r ≡ read (codes count) (now (sheet .entry)) at ⌝ }
 {
@@ -34,6 +35,23 @@ fn read_codes(sheet: &[u8], at: usize, count: u32) -> Field
         left -= 1;
     }
     Field::Value(0, next)
+}
+
+// The hall table of so many bytes: where all are there, many codes are looked at together.
+fn read_codes(sheet: &[u8], at: usize, count: u32) -> Field
+    requires { ⌜ (at ≤ length (now sheet)) × (length (now sheet) ≤ longest) ⌝ }
+    ensures { λ r. ⌜ r ≡ read (codes count) (now (sheet .entry)) at ⌝ }
+{
+    let bytes = count as usize;
+    if sheet.len() - at < bytes {
+        return read_cut_codes(sheet, at, count);
+    }
+    let end = at + bytes;
+    let place = ports::first_unknown(&sheet[at..end]);
+    if place < bytes {
+        return Field::Refused(BAD_CODE, (at + place) as u32);
+    }
+    Field::Value(0, end)
 }
 
 // A packet, whose uids have to be below the limit.
