@@ -29,6 +29,9 @@ pub fn run(seed: u64, form: Form) {
     let mut above = String::new();
     for call in CALLS {
         let measures = (call.measure)(seed);
+        if measures.is_empty() {
+            continue;
+        }
         let head = form.head(&measures);
         if head != above {
             println!("\n{head}");
