@@ -34,8 +34,10 @@ pub trait Call {
     }
     /// Rooms for one input, some of them too short, filled at random.
     fn rooms(input: &Self::Input, random: &mut Random) -> Self::Rooms;
-    /// What is measured, a line of the benchmark each.
-    fn cases() -> Vec<Case<Self::Input>>;
+    /// What is measured, a line of the benchmark each; nothing where another call's lines tell as much.
+    fn cases() -> Vec<Case<Self::Input>> {
+        Vec::new()
+    }
     /// Rooms that are long enough for every input of the cases.
     fn ample_rooms() -> Self::Rooms;
     /// The number that Rattle's side returns; its rooms are left as it leaves them.

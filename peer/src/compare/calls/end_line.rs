@@ -4,7 +4,6 @@ use peer::random::Random;
 use peer::refusal::{NONE, ROOM};
 
 use crate::compare::call::Call;
-use crate::compare::cases::Case;
 use crate::compare::texts::{LineRooms, Spot};
 use crate::rattle;
 
@@ -41,10 +40,6 @@ impl Call for EndLine {
 
     fn rooms(input: &Input, random: &mut Random) -> LineRooms {
         input.spot.rooms(random)
-    }
-
-    fn cases() -> Vec<Case<Input>> {
-        Vec::new()
     }
 
     fn ample_rooms() -> LineRooms {

@@ -7,7 +7,6 @@ use peer::{report, sheet};
 use super::sheet::SHEETS;
 use super::sheet_packet::Picked;
 use crate::compare::call::Call;
-use crate::compare::cases::Case;
 use crate::compare::sheets::alone;
 use crate::compare::texts::{LineRooms, Spot};
 use crate::rattle;
@@ -45,10 +44,6 @@ impl Call for JourneyLine {
 
     fn rooms(input: &Input, random: &mut Random) -> LineRooms {
         input.spot.rooms(random)
-    }
-
-    fn cases() -> Vec<Case<Input>> {
-        Vec::new()
     }
 
     fn ample_rooms() -> LineRooms {

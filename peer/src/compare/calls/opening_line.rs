@@ -6,7 +6,6 @@ use peer::{report, sheet};
 
 use super::sheet::SHEETS;
 use crate::compare::call::Call;
-use crate::compare::cases::Case;
 use crate::compare::sheets::{any_sheet, edge_sheets, without_packets, Sheet};
 use crate::compare::texts::{LineRooms, Spot};
 use crate::rattle;
@@ -44,10 +43,6 @@ impl Call for OpeningLine {
 
     fn rooms(input: &Input, random: &mut Random) -> LineRooms {
         input.spot.rooms(random)
-    }
-
-    fn cases() -> Vec<Case<Input>> {
-        Vec::new()
     }
 
     fn ample_rooms() -> LineRooms {

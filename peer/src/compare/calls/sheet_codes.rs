@@ -6,7 +6,6 @@ use peer::sheet;
 
 use super::sheet::SHEETS;
 use crate::compare::call::Call;
-use crate::compare::cases::Case;
 use crate::compare::room::{told, Room};
 use crate::compare::sheets::{any_sheet, edge_sheets, Sheet};
 use crate::rattle;
@@ -36,10 +35,6 @@ impl Call for SheetCodes {
     fn rooms(input: &Sheet, random: &mut Random) -> Room<u8> {
         let needed = sheet::codes(input).len();
         Room::any(random, needed, needed + 2)
-    }
-
-    fn cases() -> Vec<Case<Sheet>> {
-        Vec::new()
     }
 
     fn ample_rooms() -> Room<u8> {

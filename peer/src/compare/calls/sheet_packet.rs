@@ -6,7 +6,6 @@ use peer::sheet;
 
 use super::sheet::SHEETS;
 use crate::compare::call::Call;
-use crate::compare::cases::Case;
 use crate::compare::inputs::around;
 use crate::compare::room::{told, Room};
 use crate::compare::sheets::{any_sheet, edge_sheets, Sheet};
@@ -43,10 +42,6 @@ impl Call for SheetPacket {
 
     fn rooms(_: &Picked, random: &mut Random) -> Room<u32> {
         Room::any(random, VALUES, VALUES + 2)
-    }
-
-    fn cases() -> Vec<Case<Picked>> {
-        Vec::new()
     }
 
     fn ample_rooms() -> Room<u32> {

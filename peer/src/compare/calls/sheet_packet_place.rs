@@ -7,7 +7,6 @@ use peer::sheet;
 use super::sheet::SHEETS;
 use super::sheet_packet::Picked;
 use crate::compare::call::Call;
-use crate::compare::cases::Case;
 use crate::compare::room::{told, Room};
 use crate::rattle;
 
@@ -32,10 +31,6 @@ impl Call for SheetPacketPlace {
 
     fn rooms(_: &Picked, _: &mut Random) -> Room<u32> {
         Room::new(1)
-    }
-
-    fn cases() -> Vec<Case<Picked>> {
-        Vec::new()
     }
 
     fn ample_rooms() -> Room<u32> {

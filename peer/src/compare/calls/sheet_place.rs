@@ -6,7 +6,6 @@ use peer::sheet;
 
 use super::sheet::SHEETS;
 use crate::compare::call::Call;
-use crate::compare::cases::Case;
 use crate::compare::room::{told, Room};
 use crate::compare::sheets::{any_sheet, edge_sheets, Sheet};
 use crate::rattle;
@@ -32,10 +31,6 @@ impl Call for SheetPlace {
 
     fn rooms(_: &Sheet, _: &mut Random) -> Room<u32> {
         Room::new(1)
-    }
-
-    fn cases() -> Vec<Case<Sheet>> {
-        Vec::new()
     }
 
     fn ample_rooms() -> Room<u32> {

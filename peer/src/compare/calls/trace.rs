@@ -5,7 +5,6 @@ use peer::refusal::{CODE, FIELD, HALL, LENGTH, NONE, SHEET, UID};
 use peer::{report, sheet};
 
 use crate::compare::call::Call;
-use crate::compare::cases::Case;
 use crate::compare::sheets::{self, Class, Sheet};
 use crate::compare::texts::Text;
 use crate::rattle;
@@ -57,11 +56,6 @@ impl<const ROW: usize> Call for Trace<ROW> {
 
     fn rooms(_: &Sheet, _: &mut Random) -> Text {
         Text::default()
-    }
-
-    // Each line reads the whole sheet again, where the peer reads it once; what a trace takes is measured by the programs.
-    fn cases() -> Vec<Case<Sheet>> {
-        Vec::new()
     }
 
     fn ample_rooms() -> Text {
