@@ -1,4 +1,4 @@
-// Every public call for a caller outside of Rattle, on plain numbers and slices: what the separate implementation is compared with.
+// Calls for a caller outside of Rattle, on plain numbers and slices: what the separate implementation is compared with.
 ghost use mathlib.Core.Path.{_≡_};
 ghost use mathlib.Core.List.{[], _∷_, _++_};
 ghost use Prim.Native.Nat.{_≤_};
