@@ -1,2 +1,2 @@
--- What an exported call returns and leaves in its room.
+-- What an exported call about a hall returns and leaves in its room.
 pub mod Outcomes

@@ -6,10 +6,10 @@ use Rattle.lines.proofs.journey_line.Kinds as journey-line
 use Rattle.lines.proofs.journey_line.Reads as journey-line′
 use Rattle.lines.proofs.written_part.Kinds as written-part
 use Rattle.lines.proofs.written_part.Reads as written-part′
-use Rattle.calls.proofs.tell.Kinds as told
-use Rattle.calls.proofs.tell.Reads as told′
-use Rattle.calls.proofs.tell_bytes.Kinds as tell-bytes
-use Rattle.calls.proofs.tell_bytes.Reads as tell-bytes′
+use Rattle.rooms.proofs.tell.Kinds as told
+use Rattle.rooms.proofs.tell.Reads as told′
+use Rattle.rooms.proofs.tell_bytes.Kinds as tell-bytes
+use Rattle.rooms.proofs.tell_bytes.Reads as tell-bytes′
 use Rattle.sheetcalls.proofs.calls_sheet.Kinds as calls-sheet
 use Rattle.sheetcalls.proofs.calls_sheet.Reads as calls-sheet′
 use Rattle.sheetcalls.proofs.calls_sheet_place.Kinds as calls-sheet-place

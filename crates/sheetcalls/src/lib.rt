@@ -6,8 +6,8 @@ ghost use Rattle.report.specs.Texts.{endLine};
 ghost use Rattle.report.specs.Rooms.{writtenOf, roomOf};
 ghost use Rattle.lines.specs.Traces.{openingText, journeyText, journeyRefusal, unlessWritten, unlessRoom};
 ghost use Rattle.sheetcalls.specs.Outcomes.{ofSheet, ofCodes, ofPacket};
-use calls::tell;
-use calls::tell_bytes;
+use rooms::tell;
+use rooms::tell_bytes;
 
 #[no_mangle]
 pub extern "C" fn calls_sheet(sheet: &[u8], room: &mut [u32]) -> u32

@@ -1,7 +1,7 @@
--- `calls::calls_distances` meets its contract: it tells what the call answers.
+-- `packetcalls::calls_distances` meets its contract: it tells what the call answers.
 use borrow.Author.Needs.{needs}
-use Rattle.calls.proofs.calls_distances.Statement.{statement}
-use Rattle.calls.proofs.calls_distances.Tie as tie
+use Rattle.packetcalls.proofs.calls_distances.Statement.{statement}
+use Rattle.packetcalls.proofs.calls_distances.Tie as tie
 
 distances-of-requires : tie.Need-distances-of-requires
 distances-of-requires c κs = search needs

@@ -1,7 +1,7 @@
--- `calls::calls_journey_counts` meets its contract: it tells what the call answers.
+-- `packetcalls::calls_journey` meets its contract: it tells what the call answers.
 use borrow.Author.Needs.{needs}
-use Rattle.calls.proofs.calls_journey_counts.Statement.{statement}
-use Rattle.calls.proofs.calls_journey_counts.Tie as tie
+use Rattle.packetcalls.proofs.calls_journey.Statement.{statement}
+use Rattle.packetcalls.proofs.calls_journey.Tie as tie
 
 journey-of-requires : tie.Need-journey-of-requires
 journey-of-requires c κs = search needs
@@ -16,9 +16,9 @@ same-length : tie.Need-same-length
 same-length c = search needs
 
 returns : tie.Need-returns
-returns c = rw (← c .before .before .before .before .before .journey-of .ensures) (c .before .before .tell .ensures)
+returns c = rw (← c .before .before .before .before .before .before .journey-of .ensures) (c .before .before .tell .ensures)
 
-pub calls-journey-counts-spec : {M : Type 1} → statement M
-calls-journey-counts-spec =
+pub calls-journey-spec : {M : Type 1} → statement M
+calls-journey-spec =
     tie.close
     (tie.spec journey-of-requires slice-aggregate-tell tell-requires same-length returns)

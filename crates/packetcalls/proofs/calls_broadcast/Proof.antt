@@ -1,8 +1,8 @@
--- `calls::calls_broadcast` meets its contract: the rounds stand in the one room, and the counts are told in the other.
+-- `packetcalls::calls_broadcast` meets its contract: the rounds stand in the one room, and the counts are told in the other.
 use mathlib.Core.Path.{ap}
 use borrow.Author.Needs.{needs}
-use Rattle.calls.proofs.calls_broadcast.Statement.{statement}
-use Rattle.calls.proofs.calls_broadcast.Tie as tie
+use Rattle.packetcalls.proofs.calls_broadcast.Statement.{statement}
+use Rattle.packetcalls.proofs.calls_broadcast.Tie as tie
 
 broadcast-rounds-requires : tie.Need-broadcast-rounds-requires
 broadcast-rounds-requires c κs = search needs

@@ -1,25 +1,32 @@
--- `calls::put_bytes` meets its contract: the bytes below i stand in the room, and the room behind them is as it was.
+-- `rooms::put` meets its contract: the words below i stand in the room, and the room behind them is as it was.
 use mathlib.Core.Path.{_≡_, refl, sym, _∙_, ap}
 use mathlib.Core.List.{List, _++_}
 use Prim.Native.Nat.{ℕ, zero, suc, _+_, _-_, _≤_, _<_}
 use native.Mathlib.Omega.{arith}
+use borrow.Author.Needs.{needs}
 use lib.ListN.{length, take, drop, getD, set, length-set}
 use lib.Seq.{take-all}
 use Rattle.hall.proofs.Told.{Put, put-more}
-use Rattle.calls.proofs.put_bytes.Statement.{statement}
-use Rattle.calls.proofs.put_bytes.Tie as tie
+use Rattle.rooms.proofs.put.Statement.{statement}
+use Rattle.rooms.proofs.put.Tie as tie
 
 abbrev Inv-loop : tie.InvT-loop
-Inv-loop bytes room₀ i₀ room i = (i ≤ length bytes) × (length room ≡ length room₀) × (room ≡ Put bytes room₀ i)
+Inv-loop words room₀ i₀ room i = (i ≤ length words) × (length room ≡ length room₀) × (room ≡ Put words room₀ i)
 
 abbrev μ-loop : tie.MeasureT-loop
-μ-loop bytes room₀ i₀ room i = length bytes - i
+μ-loop words room₀ i₀ room i = length words - i
 
 loop-holds : tie.Need-loop-holds Inv-loop μ-loop
 loop-holds c = (omega arith, refl, refl)
 
+mul-room : tie.Need-mul-room Inv-loop μ-loop
+mul-room c = search needs
+
 shared-slice-read-room : tie.Need-shared-slice-read-room Inv-loop μ-loop
 shared-slice-read-room c = omega arith
+
+mul-room-2 : tie.Need-mul-room-2 Inv-loop μ-loop
+mul-room-2 c = search needs
 
 slice-write-room : tie.Need-slice-write-room Inv-loop μ-loop
 slice-write-room c = omega arith
@@ -36,7 +43,7 @@ loop-again c =
     let a = c .before .before .before .args in (
       omega arith,
       length-set (w .room) (w .i) _ ∙ w .inv .1,
-      rw (w .inv .2) (put-more (a .bytes .now) (a .room .now) (w .i) (omega arith) (omega arith)),
+      rw (w .inv .2) (put-more (a .words .now) (a .room .now) (w .i) (omega arith) (omega arith)),
     )
 
 same-length : tie.Need-same-length Inv-loop μ-loop
@@ -46,17 +53,19 @@ returns : tie.Need-returns Inv-loop μ-loop
 returns c =
     let w = c .before .loop in
     let a = c .before .before .args in
-    let e : w .i ≡ length (a .bytes .now) = omega arith in
-    w .inv .2 ∙ rw (e, take-all (length (a .bytes .now)) (a .bytes .now) (omega arith))
+    let e : w .i ≡ length (a .words .now) = omega arith in
+    w .inv .2 ∙ rw (e, take-all (length (a .words .now)) (a .words .now) (omega arith))
 
-pub put-bytes-spec : {M : Type 1} → statement M
-put-bytes-spec =
+pub put-spec : {M : Type 1} → statement M
+put-spec =
     tie.close
     (tie.spec
     Inv-loop
     μ-loop
     loop-holds
+    mul-room
     shared-slice-read-room
+    mul-room-2
     slice-write-room
     add-i
     loop-less

@@ -1,7 +1,7 @@
--- `calls::calls_next_hop` meets its contract: it tells what the call answers.
+-- `packetcalls::calls_next_hop` meets its contract: it tells what the call answers.
 use borrow.Author.Needs.{needs}
-use Rattle.calls.proofs.calls_next_hop.Statement.{statement}
-use Rattle.calls.proofs.calls_next_hop.Tie as tie
+use Rattle.packetcalls.proofs.calls_next_hop.Statement.{statement}
+use Rattle.packetcalls.proofs.calls_next_hop.Tie as tie
 
 next-hop-requires : tie.Need-next-hop-requires
 next-hop-requires c κs = search needs

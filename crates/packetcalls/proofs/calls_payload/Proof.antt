@@ -1,7 +1,7 @@
--- `calls::calls_payload` meets its contract: it tells the payload.
+-- `packetcalls::calls_payload` meets its contract: it tells the payload.
 use borrow.Author.Needs.{needs}
-use Rattle.calls.proofs.calls_payload.Statement.{statement}
-use Rattle.calls.proofs.calls_payload.Tie as tie
+use Rattle.packetcalls.proofs.calls_payload.Statement.{statement}
+use Rattle.packetcalls.proofs.calls_payload.Tie as tie
 
 payload-of-requires : tie.Need-payload-of-requires
 payload-of-requires c κs = search needs

@@ -1,7 +1,7 @@
--- `calls::calls_distances_origin` meets its contract: it tells what the call answers.
+-- `packetcalls::calls_distances_origin` meets its contract: it tells what the call answers.
 use borrow.Author.Needs.{needs}
-use Rattle.calls.proofs.calls_distances_origin.Statement.{statement}
-use Rattle.calls.proofs.calls_distances_origin.Tie as tie
+use Rattle.packetcalls.proofs.calls_distances_origin.Statement.{statement}
+use Rattle.packetcalls.proofs.calls_distances_origin.Tie as tie
 
 distances-of-requires : tie.Need-distances-of-requires
 distances-of-requires c κs = search needs

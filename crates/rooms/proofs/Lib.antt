@@ -1,0 +1,1 @@
+-- The laws about told answers stand in hall.

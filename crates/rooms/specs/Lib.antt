@@ -1,0 +1,2 @@
+-- What calls for a caller outside of Rattle share.
+pub mod Numbers
