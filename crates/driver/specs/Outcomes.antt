@@ -8,7 +8,7 @@ use Rattle.combine.specs.Tests.{pick}
 use Rattle.hall.specs.declared.Hall.{Hall}
 use Rattle.route.specs.declared.Route.{Route}
 use Rattle.frame.specs.declared.Header.{Header}
-use Rattle.frame.specs.declared.Fields.{Fields}
+use Rattle.header.specs.declared.Fields.{Fields}
 use Rattle.forward.specs.declared.Packet.{Packet}
 use Rattle.forward.specs.declared.Step.{Step}
 use Rattle.hall.specs.Rooms.{Outcome}

@@ -7,14 +7,14 @@ ghost use lib.Seq.{sets};
 ghost use Rattle.route.specs.Answers.{routeBetween};
 ghost use Rattle.forward.specs.Answers.{stepOf};
 ghost use Rattle.frame.specs.Reading.{readFrame};
-ghost use Rattle.frame.specs.Writing.{writeRefusal, roomWritten};
+ghost use Rattle.header.specs.Writing.{writeRefusal, roomWritten};
 ghost use Rattle.hall.specs.Rooms.{told, written};
 ghost use Rattle.driver.specs.Words.{bigEndian, bytesOf};
 ghost use Rattle.driver.specs.Outcomes.{hallOf, flagOf, ofRoute, ofHeader, fieldsOf, ofStep, packetOf};
 use forward::Packet;
-use frame::Fields;
 use hall::Hall;
 use hall::refusals::SHORT_ROOM;
+use header::Fields;
 
 // The four bytes of a word at a place of the room.
 fn put_word(room: &mut [u8], at: usize, w: u32)
@@ -127,7 +127,7 @@ pub extern "C" fn tbexlum_write_header(
         has_proxy: has_proxy != 0,
         proxy,
     };
-    frame::write_header(fields, room)
+    header::write_header(fields, room)
 }
 
 // A byte as a word.

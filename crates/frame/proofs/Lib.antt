@@ -4,9 +4,3 @@ pub mod Sums
 pub mod Rows
 pub mod Words
 pub mod Frames
-pub mod Written
-pub mod Same
-pub mod Changes
-pub mod RoundTrip
-pub mod Encoding
-pub mod Noise

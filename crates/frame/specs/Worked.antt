@@ -1,36 +1,19 @@
 -- Worked headers: the values that the definitions compute.
 -- Sections "Frame header" and "Bench cases".
 use Prim.Native.Nat.{ℕ}
-use mathlib.Core.Bool.{Bool, true, false}
+use mathlib.Core.Bool.{false}
 use mathlib.Core.List.{List, [], _∷_, _++_}
 use mathlib.Core.Path.{_≡_, refl}
-use Rattle.frame.specs.declared.Fields.{Fields}
-use Rattle.hall.specs.Refusals.{refusal, bad-checksum, bad-address}
-use Rattle.frame.specs.Layout.{bits, joined, cut, has, inRows, valueIn, wordsOf, before, offsetIn, offset, wordAt, bytesOf}
+use Rattle.hall.specs.Refusals.{bad-checksum}
+use Rattle.frame.specs.Layout.{bits, joined, cut, has, inRows, valueIn, before, offsetIn, offset, wordAt}
 use Rattle.frame.specs.Checksum.{plusOnes, sumOnes, without, checksumOf, halves, checksumPlace, headerChecksum}
 use Rattle.frame.specs.Addresses.{server, broadcast, addressesFit}
 use Rattle.frame.specs.Asks.{inOrder, asksHeader, asksWhole, asksFrame, frameRefusal}
 use Rattle.frame.specs.Reading.{readFrame, nextIdentification}
-use Rattle.frame.specs.Writing.{valuesOf, sumOf, headerWords, headerBytes, writeRefusal}
 
 -- 1506 0000 0000 0001 500F 9AD6 0000 0000 0000 0013
 abbrev pub frame : List ℕ
 frame = 21 ∷ 6 ∷ 0 ∷ 0 ∷ 0 ∷ 0 ∷ 0 ∷ 1 ∷ 80 ∷ 15 ∷ 154 ∷ 214 ∷ 0 ∷ 0 ∷ 0 ∷ 0 ∷ 0 ∷ 0 ∷ 0 ∷ 19 ∷ []
-
--- protocol 6, identification 1, retry 5, TTL 15, 0 to 19
-abbrev pub fields : Fields
-fields =
-    record {
-      protocol = 6;
-      «payload_length» = 0;
-      identification = 1;
-      retry = 5;
-      ttl = 15;
-      source = 0;
-      destination = 19;
-      «has_proxy» = false;
-      proxy = 0;
-    }
 
 -- the checksum is the sixth 16-bit word
 pub checksum-place : checksumPlace ≡ 5
@@ -53,36 +36,6 @@ pub frame-read : readFrame frame
     }
 unfolding bits joined cut has inRows valueIn wordAt before offsetIn offset checksumPlace plusOnes sumOnes without checksumOf halves headerChecksum server broadcast addressesFit inOrder asksHeader asksWhole asksFrame frameRefusal
 frame-read = refl
-
-pub frame-written : headerBytes fields ≡ frame
-unfolding bits joined wordsOf bytesOf has before offsetIn offset checksumPlace plusOnes sumOnes without checksumOf halves headerChecksum valuesOf sumOf headerWords headerBytes
-frame-written = refl
-
--- a broadcast of scope 7, without and with a proxy
-abbrev pub everywhere : ℕ
-everywhere = 4294967295
-
-abbrev pub sent : Bool → Fields
-sent hasProxy =
-    record {
-      protocol = 6;
-      «payload_length» = 0;
-      identification = 1;
-      retry = 5;
-      ttl = 15;
-      source = 0;
-      destination = everywhere;
-      «has_proxy» = hasProxy;
-      proxy = 7;
-    }
-
-pub broadcast-accepted : writeRefusal (sent false) frame ≡ 0
-unfolding refusal server broadcast addressesFit writeRefusal
-broadcast-accepted = refl
-
-pub broadcast-with-proxy : writeRefusal (sent true) (frame ++ frame) ≡ bad-address
-unfolding refusal server broadcast addressesFit writeRefusal
-broadcast-with-proxy = refl
 
 -- FFFF where 0000 is due: the sum can't tell them apart, and the frame is refused
 abbrev pub due : List ℕ → List ℕ

@@ -27,7 +27,7 @@ pub(crate) fn is_broadcast(address: u32) -> bool
 }
 
 // Whether each address is of a kind that may stand where it stands.
-pub(crate) fn addresses_fit(source: u32, destination: u32, has_proxy: bool, proxy: u32) -> bool
+pub fn addresses_fit(source: u32, destination: u32, has_proxy: bool, proxy: u32) -> bool
     ensures { λ r. ⌜ r ≡ addressesFit source destination «has_proxy» proxy ⌝ }
 {
     if !is_server(source) {

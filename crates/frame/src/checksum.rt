@@ -22,7 +22,7 @@ pub(crate) fn sum_words(frame: &[u8], count: usize) -> u64
 }
 
 // The ones' complement of a plain sum with its carries brought in.
-pub(crate) fn complement(sum: u64) -> u32
+pub fn complement(sum: u64) -> u32
     ensures { λ r. ⌜ r ≡ 65535 - folded sum ⌝ }
 {
     if sum == 0 {

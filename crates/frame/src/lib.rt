@@ -1,14 +1,11 @@
-// A frame's header: read off the wire and written to lent room, the payload behind it, and the next identification.
-mod addresses;
-mod checksum;
-mod layout;
+// A frame's header read off the wire, the payload behind it, and the next identification.
+pub mod addresses;
+pub mod checksum;
+pub mod layout;
 mod reading;
-mod writing;
 
 ghost use mathlib.Core.Path.{_≡_};
 ghost use Rattle.frame.specs.Reading.{readFrame, payloadOf, nextIdentification};
-ghost use Rattle.frame.specs.Writing.{writeRefusal, roomWritten};
-use crate::addresses::addresses_fit;
 use crate::layout::BITS_4;
 use crate::layout::BITS_16;
 use crate::layout::DHL_AT;
@@ -16,14 +13,6 @@ use crate::layout::word_at;
 use crate::reading::frame_refusal;
 use crate::reading::header_of;
 use crate::reading::refused_header;
-use crate::writing::count_of;
-use crate::writing::put_header;
-use hall::refusals::BAD_ADDRESS;
-use hall::refusals::BAD_HEADER;
-use hall::refusals::SHORT_ROOM;
-
-// The highest retry that a header can say.
-pub const RETRY_MOST: u8 = 15;
 
 // What a frame says. The header's length is in bytes; where has_proxy is false, proxy is 0.
 pub struct Header {
@@ -38,19 +27,6 @@ pub struct Header {
     pub has_proxy: bool,
     pub proxy: u32,
     pub header_length: u32,
-}
-
-// What a header is to say. Where has_proxy is false, proxy is not looked at.
-pub struct Fields {
-    pub protocol: u8,
-    pub payload_length: u16,
-    pub identification: u32,
-    pub retry: u8,
-    pub ttl: u8,
-    pub source: u32,
-    pub destination: u32,
-    pub has_proxy: bool,
-    pub proxy: u32,
 }
 
 // A frame's fields, or its refusal.
@@ -77,29 +53,6 @@ pub fn payload_of(frame: &[u8]) -> &[u8]
     let length = (first % BITS_16) as usize;
     let rest = &frame[start..];
     &rest[..length]
-}
-
-// Writes the 20 or 24 header bytes at the start of the room and answers 0; or answers a refusal and leaves the room as lent.
-pub fn write_header(fields: Fields, room: &mut [u8]) -> u32
-    ensures refusal { λ r. ⌜ r ≡ writeRefusal fields (now (room .entry)) ⌝ }
-    ensures room { λ _. ⌜ now (room .exit) ≡ roomWritten fields (now (room .entry)) ⌝ }
-{
-    if RETRY_MOST < fields.retry {
-        return BAD_HEADER;
-    }
-    if !addresses_fit(
-        fields.source,
-        fields.destination,
-        fields.has_proxy,
-        fields.proxy,
-    ) {
-        return BAD_ADDRESS;
-    }
-    if room.len() < 4 * count_of(fields) {
-        return SHORT_ROOM;
-    }
-    put_header(fields, room);
-    0
 }
 
 // The identification after a given one.

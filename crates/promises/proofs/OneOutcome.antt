@@ -48,6 +48,10 @@ use Rattle.forward.proofs.forward_step.Kinds as forward-step
 use Rattle.forward.proofs.forward_step.Reads as forward-step′
 use Rattle.forward.proofs.journey_of.Kinds as journey-of
 use Rattle.forward.proofs.journey_of.Reads as journey-of′
+use Rattle.frame.proofs.addresses.addresses_fit.Kinds as addresses-fit
+use Rattle.frame.proofs.addresses.addresses_fit.Reads as addresses-fit′
+use Rattle.frame.proofs.checksum.complement.Kinds as sum-complement
+use Rattle.frame.proofs.checksum.complement.Reads as sum-complement′
 use Rattle.frame.proofs.read_frame.Kinds as read-frame
 use Rattle.frame.proofs.read_frame.Reads as read-frame′
 use Rattle.frame.proofs.next_identification.Kinds as next-identification
@@ -68,8 +72,8 @@ use Rattle.sheet.proofs.codes_of.Kinds as codes-of
 use Rattle.sheet.proofs.codes_of.Reads as codes-of′
 use Rattle.broadcast.proofs.broadcast_rounds.Kinds as broadcast-rounds
 use Rattle.broadcast.proofs.broadcast_rounds.Reads as broadcast-rounds′
-use Rattle.frame.proofs.write_header.Kinds as write-header
-use Rattle.frame.proofs.write_header.Reads as write-header′
+use Rattle.header.proofs.write_header.Kinds as write-header
+use Rattle.header.proofs.write_header.Reads as write-header′
 use Rattle.report.proofs.hall_line.Kinds as hall-line
 use Rattle.report.proofs.hall_line.Reads as hall-line′
 use Rattle.report.proofs.refused_line.Kinds as refused-line
@@ -161,6 +165,12 @@ pub «journey_of» : OneResult 1 journey-of.ps journey-of.r journey-of′.Learnt
 «journey_of» κs a x y e f = one
 
 -- crate `frame`: the result
+pub «addresses_fit» : OneResult 0 addresses-fit.ps addresses-fit.r addresses-fit′.Learnt
+«addresses_fit» κs a x y e f = one
+
+pub complement : OneResult 0 sum-complement.ps sum-complement.r sum-complement′.Learnt
+complement κs a x y e f = one
+
 pub «read_frame» : OneResult 1 read-frame.ps read-frame.r read-frame′.Learnt
 «read_frame» κs a x y e f = one
 

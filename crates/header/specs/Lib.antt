@@ -1,0 +1,3 @@
+-- How a header is written.
+pub mod Writing
+pub mod Worked

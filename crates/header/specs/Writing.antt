@@ -1,0 +1,93 @@
+-- What writing a header answers, and what the lent room then holds.
+-- Section "Frame header".
+use Prim.Native.Nat.{ℕ, _*_}
+use mathlib.Core.List.{List, [], _∷_, _++_}
+use lib.Dec.{eqb, leb}
+use lib.ListN.{length, getD, drop}
+use Rattle.combine.specs.Tests.{pick}
+use Rattle.hall.specs.Refusals.{refusal, bad-header, bad-address, short-room}
+use Rattle.frame.specs.declared.Header.{Header}
+use Rattle.frame.specs.Layout.{theVersion, wordsWith, wordsOf, bytesOf}
+use Rattle.frame.specs.Checksum.{headerChecksum}
+use Rattle.frame.specs.Addresses.{addressesFit}
+use Rattle.header.specs.declared.Fields.{Fields}
+
+-- the header's words
+abbrev pub countOf : Fields → ℕ
+countOf fields = wordsWith (fields .«has_proxy»)
+
+-- the values in the layout's order, with a checksum
+unfoldable pub valuesOf : Fields → ℕ → ℕ → ℕ
+valuesOf fields sum field =
+    getD
+    (theVersion
+    ∷ countOf fields
+    ∷ fields .protocol
+    ∷ fields .«payload_length»
+    ∷ fields .identification
+    ∷ fields .retry
+    ∷ pick (fields .«has_proxy») 1 0
+    ∷ fields .ttl
+    ∷ sum
+    ∷ fields .source
+    ∷ fields .destination
+    ∷ fields .proxy
+    ∷ [])
+    field 0
+
+-- the checksum, worked out with its field as zero
+unfoldable pub sumOf : Fields → ℕ
+sumOf fields = headerChecksum (wordsOf (valuesOf fields 0)) (countOf fields)
+
+-- the words that are written
+unfoldable pub headerWords : Fields → ℕ → ℕ
+headerWords fields = wordsOf (valuesOf fields (sumOf fields))
+
+-- the 20 or 24 bytes that are written
+unfoldable pub headerBytes : Fields → List ℕ
+headerBytes fields = bytesOf (headerWords fields) (countOf fields)
+
+unfoldable pub writeRefusal : Fields → List ℕ → ℕ
+writeRefusal fields room =
+    refusal
+    ((bad-header, leb (fields .retry) 15)
+    ∷ (bad-address, addressesFit (fields .source) (fields .destination) (fields .«has_proxy») (fields .proxy))
+    ∷ (short-room, leb (4 * countOf fields) (length room))
+    ∷ [])
+
+-- the room once the header is written: as lent where it is refused, and behind the header
+unfoldable pub roomWritten : Fields → List ℕ → List ℕ
+roomWritten fields room =
+    pick (eqb (writeRefusal fields room) 0) (headerBytes fields ++ drop (4 * countOf fields) room) room
+
+-- what reading answers of a header that is written
+abbrev pub headerFor : Fields → Header
+headerFor fields =
+    record {
+      refusal = 0;
+      protocol = fields .protocol;
+      «payload_length» = fields .«payload_length»;
+      identification = fields .identification;
+      retry = fields .retry;
+      ttl = fields .ttl;
+      source = fields .source;
+      destination = fields .destination;
+      «has_proxy» = fields .«has_proxy»;
+      proxy = pick (fields .«has_proxy») (fields .proxy) 0;
+      «header_length» = 4 * countOf fields;
+    }
+
+-- what writing is given for a header that was read
+abbrev pub fieldsOf : Header → Fields
+fieldsOf header =
+    record {
+      protocol = header .protocol;
+      «payload_length» = header .«payload_length»;
+      identification = header .identification;
+      retry = header .retry;
+      ttl = header .ttl;
+      source = header .source;
+      destination = header .destination;
+      «has_proxy» = header .«has_proxy»;
+      proxy = header .proxy;
+    }
