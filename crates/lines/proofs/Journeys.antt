@@ -7,8 +7,8 @@ use borrow.Author.Tests.{eq-eqb, ne-eqb, le-ltb, lt-ltb}
 use Rattle.hall.specs.Refusals.{bad-range}
 use Rattle.forward.specs.declared.Journey.{Journey}
 use Rattle.sheet.specs.declared.Sheet.{Sheet}
-use Rattle.sheet.specs.declared.SheetPacket.{SheetPacket}
-use Rattle.sheet.specs.Answers.{packetFields}
+use Rattle.sheetparts.specs.declared.SheetPacket.{SheetPacket}
+use Rattle.sheetparts.specs.Parts.{packetFields}
 use Rattle.report.specs.declared.Written.{Written}
 use Rattle.report.specs.Texts.{packetLine}
 use Rattle.report.specs.Rooms.{writtenOf, roomOf}

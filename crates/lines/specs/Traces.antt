@@ -11,8 +11,9 @@ use Rattle.forward.specs.declared.Packet.{Packet}
 use Rattle.forward.specs.declared.Journey.{Journey}
 use Rattle.forward.specs.Answers.{journeyOf}
 use Rattle.sheet.specs.declared.Sheet.{Sheet}
-use Rattle.sheet.specs.declared.SheetPacket.{SheetPacket}
-use Rattle.sheet.specs.Answers.{sheetOf, codesPart, packetFields}
+use Rattle.sheet.specs.Answers.{sheetOf}
+use Rattle.sheetparts.specs.declared.SheetPacket.{SheetPacket}
+use Rattle.sheetparts.specs.Parts.{codesPart, packetFields}
 use Rattle.report.specs.declared.Written.{Written}
 use Rattle.report.specs.declared.PacketReport.{PacketReport}
 use Rattle.report.specs.Texts.{hallLine, refusedLine, endLine, packetLine}

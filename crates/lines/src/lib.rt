@@ -11,7 +11,7 @@ use hall::refusals::BAD_RANGE;
 use report::PacketReport;
 use report::Written;
 use sheet::Sheet;
-use sheet::SheetPacket;
+use sheetparts::SheetPacket;
 
 // The first line, by what reading the sheet answered: its hall, or its refusal.
 pub fn opening_line(room: &mut [u8], at: usize, read: Sheet) -> Written
@@ -43,7 +43,7 @@ fn refused_with(number: u32) -> Written
 fn journey_at(sheet: &[u8], read: Sheet, i: u32) -> Journey
     ensures { λ r. ⌜ r ≡ journeyAt (now (sheet .entry)) read i ⌝ }
 {
-    let p = sheet::packet_fields(sheet, i);
+    let p = sheetparts::packet_fields(sheet, i);
     let h = Hall {
         n: read.n,
         k: read.k,
@@ -56,7 +56,7 @@ fn journey_at(sheet: &[u8], read: Sheet, i: u32) -> Journey
         retry: p.retry,
         ttl: p.ttl,
     };
-    forward::journey_of(h, p.source, packet, sheet::codes_part(sheet))
+    forward::journey_of(h, p.source, packet, sheetparts::codes_part(sheet))
 }
 
 // The line of a packet and its journey.
@@ -90,7 +90,7 @@ pub fn journey_line(room: &mut [u8], at: usize, sheet: &[u8], read: Sheet, i: u3
     if j.refusal != 0 {
         return refused_with(j.refusal);
     }
-    told_line(room, at, sheet::packet_fields(sheet, i), j)
+    told_line(room, at, sheetparts::packet_fields(sheet, i), j)
 }
 
 // The first bytes of a room, up to the end of what was written to it.

@@ -56,20 +56,22 @@ use Rattle.frame.proofs.read_frame.Kinds as read-frame
 use Rattle.frame.proofs.read_frame.Reads as read-frame′
 use Rattle.frame.proofs.next_identification.Kinds as next-identification
 use Rattle.frame.proofs.next_identification.Reads as next-identification′
+use Rattle.sheet.proofs.word_at.Kinds as word-at
+use Rattle.sheet.proofs.word_at.Reads as word-at′
 use Rattle.sheet.proofs.read_sheet.Kinds as read-sheet
 use Rattle.sheet.proofs.read_sheet.Reads as read-sheet′
-use Rattle.sheet.proofs.packet_fields.Kinds as packet-fields
-use Rattle.sheet.proofs.packet_fields.Reads as packet-fields′
-use Rattle.sheet.proofs.packet_at.Kinds as packet-at
-use Rattle.sheet.proofs.packet_at.Reads as packet-at′
+use Rattle.sheetparts.proofs.packet_fields.Kinds as packet-fields
+use Rattle.sheetparts.proofs.packet_fields.Reads as packet-fields′
+use Rattle.sheetparts.proofs.packet_at.Kinds as packet-at
+use Rattle.sheetparts.proofs.packet_at.Reads as packet-at′
 use Rattle.ports.proofs.part_of.Kinds as part-of
 use Rattle.ports.proofs.part_of.Reads as part-of′
 use Rattle.frame.proofs.payload_of.Kinds as payload-of
 use Rattle.frame.proofs.payload_of.Reads as payload-of′
-use Rattle.sheet.proofs.codes_part.Kinds as codes-part
-use Rattle.sheet.proofs.codes_part.Reads as codes-part′
-use Rattle.sheet.proofs.codes_of.Kinds as codes-of
-use Rattle.sheet.proofs.codes_of.Reads as codes-of′
+use Rattle.sheetparts.proofs.codes_part.Kinds as codes-part
+use Rattle.sheetparts.proofs.codes_part.Reads as codes-part′
+use Rattle.sheetparts.proofs.codes_of.Kinds as codes-of
+use Rattle.sheetparts.proofs.codes_of.Reads as codes-of′
 use Rattle.broadcast.proofs.broadcast_rounds.Kinds as broadcast-rounds
 use Rattle.broadcast.proofs.broadcast_rounds.Reads as broadcast-rounds′
 use Rattle.header.proofs.write_header.Kinds as write-header
@@ -178,9 +180,13 @@ pub «next_identification» : OneResult 0 next-identification.ps next-identifica
 «next_identification» κs a x y e f = one
 
 -- crate `sheet`: the result
+pub «word_at» : OneResult 1 word-at.ps word-at.r word-at′.Learnt
+«word_at» κs a x y e f = one
+
 pub «read_sheet» : OneResult 1 read-sheet.ps read-sheet.r read-sheet′.Learnt
 «read_sheet» κs a x y e f = one
 
+-- crate `sheetparts`: the result
 pub «packet_fields» : OneResult 1 packet-fields.ps packet-fields.r packet-fields′.Learnt
 «packet_fields» κs a x y e f = one
 

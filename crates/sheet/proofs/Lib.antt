@@ -5,4 +5,3 @@ pub mod Accepted
 pub mod Codes
 pub mod Faults
 pub mod Held
-pub mod Encoding

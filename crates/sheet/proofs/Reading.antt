@@ -15,7 +15,7 @@ use Rattle.hall.specs.Refusals.{bad-hall, bad-sheet}
 use Rattle.hall.specs.Halls.{nFits, kFits, bFits, valid}
 use Rattle.sheet.specs.declared.Field.{Field}
 use Rattle.sheet.specs.declared.Field.the-variants.{Value, Refused}
-use Rattle.sheet.specs.Formats.{Format, done, field, and-then, value, read}
+use Rattle.sheet.specs.Formats.{Format, done, field, and-then, value, wordAt, read}
 use Rattle.sheet.specs.Sheets.{any, number-n, number-k, number-b, times}
 
 -- the next place, or the refusal's
@@ -146,6 +146,15 @@ unfolding value
 value-four s at =
     let e : at + 0 ≡ at = omega arith in
     omega (arith, ap (λ (i : ℕ). getD s i 0) e)
+
+-- four bytes that are there, and that are not
+pub word-there : (s : List ℕ) (at : ℕ) → at + 4 ≤ length s → wordAt s at ≡ value s at 4
+unfolding wordAt
+word-there s at h = rw (le-leb (at + 4) (length s) h)
+
+pub word-cut : (s : List ℕ) (at : ℕ) → length s < at + 4 → wordAt s at ≡ 0
+unfolding wordAt
+word-cut s at h = rw (lt-leb (at + 4) (length s) h)
 
 -- a format no more times; and once more, read to its end or refused
 pub times-none : (f : Format) (s : List ℕ) (at : ℕ) → Value 0 at ≡ read (times 0 f) s at

@@ -1,20 +1,17 @@
--- Laws of the calls' answers: what each is, by the test that decides it.
-use mathlib.Core.Path.{_≡_, refl, sym, _∙_, ap}
-use mathlib.Core.Bool.{Bool, true, false}
-use mathlib.Core.List.{List, []}
-use Prim.Native.Nat.{ℕ, zero, suc, _+_, _-_, _*_, _≤_, _<_}
-use native.Mathlib.Omega.{arith}
-use lib.Dec.{eqb, leb, ltb}
-use lib.ListN.{length, getD, take, drop}
-use borrow.Author.Tests.{le-leb, lt-leb, lt-ltb, le-ltb, eq-eqb, ne-eqb}
-use Rattle.hall.specs.Refusals.{bad-range, bad-sheet}
+-- Laws of what reading a sheet answers, by the test that decides it.
+use mathlib.Core.Path.{_≡_, _∙_}
+use mathlib.Core.List.{List}
+use Prim.Native.Nat.{ℕ, _≤_, _<_}
+use lib.Dec.{ltb}
+use lib.ListN.{length, getD}
+use borrow.Author.Tests.{lt-ltb, le-ltb}
+use Rattle.hall.specs.Refusals.{bad-sheet}
 use Rattle.sheet.specs.declared.Field.{Field}
 use Rattle.sheet.specs.declared.Field.the-variants.{Value, Refused}
 use Rattle.sheet.specs.declared.Sheet.{Sheet}
-use Rattle.sheet.specs.declared.SheetPacket.{SheetPacket}
-use Rattle.sheet.specs.Formats.{value, read}
-use Rattle.sheet.specs.Sheets.{longest, count, nightSheet}
-use Rattle.sheet.specs.Answers.{refusedAt, told, sheetOf, codesPart, codesOf, packetPlace, packetRefused, packetPart, packetFields, packetAt}
+use Rattle.sheet.specs.Formats.{read}
+use Rattle.sheet.specs.Sheets.{longest, nightSheet}
+use Rattle.sheet.specs.Answers.{refusedAt, told, sheetOf}
 use Rattle.sheet.proofs.Reading.{value-one}
 
 module _ (s : List ℕ) where
@@ -38,42 +35,3 @@ module _ (s : List ℕ) where
       pub sheet-accepted : length s ≤ end
           → sheetOf s ≡ record { refusal = 0; place = 0; n = getD s 4 0; k = getD s 5 0; b = getD s 6 0; packets = packetCount }
       sheet-accepted h = sheet-read ∙ rw (e, le-ltb end (length s) h, value-one s 4, value-one s 5, value-one s 6)
-
-  -- the codes by their bytes
-  pub codes-short : length s < 11 + value s 7 4 → [] ≡ codesPart s
-  unfolding codesPart
-  codes-short h = rw (lt-leb (11 + value s 7 4) (length s) h)
-
-  pub codes-there : 11 + value s 7 4 ≤ length s → take (value s 7 4) (drop 11 s) ≡ codesPart s
-  unfolding codesPart
-  codes-there h = rw (le-leb (11 + value s 7 4) (length s) h)
-
-  module _ (r : Sheet) (read : r ≡ sheetOf s) where
-    pub codes-refused : (r .refusal ≡ 0 → ⊥) → [] ≡ codesOf s
-    codes-refused h = rw (← read, ne-eqb (r .refusal) 0 h)
-
-    pub codes-answered : r .refusal ≡ 0 → codesPart s ≡ codesOf s
-    codes-answered h = rw (← read, eq-eqb (r .refusal) 0 h)
-
-    pub packet-of-refused : (i : ℕ) → (r .refusal ≡ 0 → ⊥) → packetRefused (r .refusal) (r .place) ≡ packetAt s i
-    packet-of-refused i h = rw (← read, ne-eqb (r .refusal) 0 h)
-
-    pub packet-past : (i : ℕ) → r .refusal ≡ 0 → r .packets ≤ i → packetRefused bad-range 0 ≡ packetAt s i
-    packet-past i h l = rw (← read, eq-eqb (r .refusal) 0 h, le-ltb i (r .packets) l)
-
-    pub packet-answered : (i : ℕ) → r .refusal ≡ 0 → i < r .packets → packetFields s i ≡ packetAt s i
-    packet-answered i h l = rw (← read, eq-eqb (r .refusal) 0 h, lt-ltb i (r .packets) l)
-
-  -- a packet by its bytes
-  pub packet-short : (i : ℕ) → length s < 11 + value s 7 4 + 4 + 10 * i + 10 → packetRefused 0 0 ≡ packetFields s i
-  unfolding packetPart packetPlace
-  packet-short i h = rw (lt-leb (11 + value s 7 4 + 4 + 10 * i + 10) (length s) h)
-
-  pub packet-there : (i at source dst : ℕ) → at ≡ 11 + value s 7 4 + 4 + 10 * i → at + 10 ≤ length s
-      → source ≡ value s at 4 → dst ≡ value s (at + 4) 4
-      → _≡_ {A = SheetPacket}
-      (record { refusal = 0; place = 0; source = source; dst = dst; retry = getD s (at + 8) 0; ttl = getD s (at + 9) 0 })
-      (packetFields s i)
-  unfolding packetPart packetPlace
-  packet-there i at source dst e h es ed =
-      rw (← e, le-leb (at + 10) (length s) h, es, ed, value-one s (at + 8), value-one s (at + 9))

@@ -25,6 +25,10 @@ unfoldable pub value : List ℕ → ℕ → ℕ → ℕ
 value s at zero = 0
 value s at (suc width) = value s at width * 256 + getD s (at + width) 0
 
+-- the number in four bytes; 0 where they are not there
+unfoldable pub wordAt : List ℕ → ℕ → ℕ
+wordAt s at = pick (leb (at + 4) (length s)) (value s at 4) 0
+
 -- a field that is not wholly there is a cut, told at the sheet's length; a whole one that is not sound is told at its first byte
 unfoldable pub read : Format → List ℕ → ℕ → Field
 read (done v) s at = Value v at

@@ -1,4 +1,4 @@
--- What a night sheet is, field by field, and what each call about one answers.
+-- What a night sheet is, field by field, and what reading one answers.
 pub mod Formats
 pub mod Sheets
 pub mod Answers

@@ -9,7 +9,7 @@ use Rattle.hall.specs.Halls.{nFits, kFits, bFits, servers}
 use Rattle.ports.specs.Codes.{known, tableLength}
 use Rattle.sheet.specs.Formats.{value, read, and-then}
 use Rattle.sheet.specs.Sheets.{times, packet, tablesOf, nightSheet}
-use Rattle.sheet.specs.Answers.{refusedAt, sheetOf, codesPart, packetPlace, packetPart, packetAt}
+use Rattle.sheet.specs.Answers.{refusedAt, sheetOf}
 
 -- the sheet, with a code at the bytes 7 and 33 of its hall table, and what stands behind its packet
 unfoldable pub sheetWith : ℕ → List ℕ → List ℕ
@@ -21,14 +21,6 @@ sheetWith code rest =
 accepted : sheetOf (sheetWith 2 []) ≡ record { refusal = 0; place = 0; n = 4; k = 1; b = 0; packets = 1 }
 unfolding sheetOf sheetWith nightSheet tablesOf times packet read and-then value nFits kFits bFits tableLength servers t known
 accepted = refl
-
-packet-zero : packetAt (sheetWith 2 []) 0 ≡ record { refusal = 0; place = 0; source = 0; dst = 19; retry = 5; ttl = 15 }
-unfolding sheetOf sheetWith nightSheet tablesOf times packet read and-then value nFits kFits bFits tableLength servers t known packetPlace packetPart
-packet-zero = refl
-
-packet-one : packetAt (sheetWith 2 []) 1 ≡ record { refusal = 3; place = 0; source = 0; dst = 0; retry = 0; ttl = 0 }
-unfolding sheetOf sheetWith nightSheet tablesOf times packet read and-then value nFits kFits bFits tableLength servers t known packetPlace packetPart
-packet-one = refl
 
 unknown-code : sheetOf (sheetWith 7 []) ≡ refusedAt 5 18
 unfolding sheetOf sheetWith nightSheet tablesOf times packet read and-then value nFits kFits bFits tableLength servers t known

@@ -3,8 +3,9 @@ use mathlib.Core.List.{List, [], _∷_}
 use Prim.Native.Nat.{ℕ}
 use Rattle.hall.specs.Rooms.{Outcome}
 use Rattle.sheet.specs.declared.Sheet.{Sheet}
-use Rattle.sheet.specs.declared.SheetPacket.{SheetPacket}
-use Rattle.sheet.specs.Answers.{sheetOf, codesOf}
+use Rattle.sheet.specs.Answers.{sheetOf}
+use Rattle.sheetparts.specs.declared.SheetPacket.{SheetPacket}
+use Rattle.sheetparts.specs.Parts.{codesOf}
 
 -- the hall and the number of packets; the place is told by a number of its own
 abbrev pub ofSheet : Sheet → Outcome

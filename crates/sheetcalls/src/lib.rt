@@ -1,7 +1,8 @@
 // The calls about a sheet and its trace for a caller outside of Rattle, on plain numbers and slices.
 ghost use mathlib.Core.Path.{_≡_};
 ghost use Rattle.hall.specs.Rooms.{told, written};
-ghost use Rattle.sheet.specs.Answers.{sheetOf, packetAt};
+ghost use Rattle.sheet.specs.Answers.{sheetOf};
+ghost use Rattle.sheetparts.specs.Parts.{packetAt};
 ghost use Rattle.report.specs.Texts.{endLine};
 ghost use Rattle.report.specs.Rooms.{writtenOf, roomOf};
 ghost use Rattle.lines.specs.Traces.{openingText, journeyText, journeyRefusal, unlessWritten, unlessRoom};
@@ -32,7 +33,7 @@ pub extern "C" fn calls_sheet_codes(sheet: &[u8], room: &mut [u8]) -> u32
     ensures room { λ _. ⌜ now (room .exit) ≡ written (ofCodes (now (sheet .entry))) (now (room .entry)) ⌝ }
 {
     let number = sheet::read_sheet(sheet).refusal;
-    let codes = sheet::codes_of(sheet);
+    let codes = sheetparts::codes_of(sheet);
     tell_bytes(number, codes, room)
 }
 
@@ -41,7 +42,7 @@ pub extern "C" fn calls_sheet_packet(sheet: &[u8], i: u32, room: &mut [u32]) -> 
     ensures number { λ r. ⌜ r ≡ told (ofPacket (packetAt (now (sheet .entry)) i)) (now (room .entry)) ⌝ }
     ensures room { λ _. ⌜ now (room .exit) ≡ written (ofPacket (packetAt (now (sheet .entry)) i)) (now (room .entry)) ⌝ }
 {
-    let a = sheet::packet_at(sheet, i);
+    let a = sheetparts::packet_at(sheet, i);
     let words = [a.source, a.dst, a.retry as u32, a.ttl as u32];
     tell(a.refusal, &words, room)
 }
@@ -50,7 +51,7 @@ pub extern "C" fn calls_sheet_packet(sheet: &[u8], i: u32, room: &mut [u32]) -> 
 pub extern "C" fn calls_sheet_packet_place(sheet: &[u8], i: u32) -> u32
     ensures { λ r. ⌜ r ≡ packetAt (now (sheet .entry)) i .place ⌝ }
 {
-    sheet::packet_at(sheet, i).place
+    sheetparts::packet_at(sheet, i).place
 }
 
 #[no_mangle]

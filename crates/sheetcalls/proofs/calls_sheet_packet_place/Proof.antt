@@ -1,7 +1,7 @@
 -- `sheetcalls::calls_sheet_packet_place` meets its contract: it tells what the call answers.
 use mathlib.Core.Path.{ap}
 use borrow.Author.Needs.{needs}
-use Rattle.sheet.specs.declared.SheetPacket.{SheetPacket}
+use Rattle.sheetparts.specs.declared.SheetPacket.{SheetPacket}
 use Rattle.sheetcalls.proofs.calls_sheet_packet_place.Statement.{statement}
 use Rattle.sheetcalls.proofs.calls_sheet_packet_place.Tie as tie
 

@@ -1,7 +1,7 @@
 -- `sheet::fields::read_word` meets its contract: the four bytes are there or the sheet is cut.
 use mathlib.Core.Path.{sym, _∙_}
 use native.Mathlib.Omega.{arith}
-use Rattle.sheet.proofs.Reading.{any-cut, any-there}
+use Rattle.sheet.proofs.Reading.{any-cut, any-there, word-there}
 use borrow.Author.Needs.{needs}
 use Rattle.sheet.proofs.fields.read_word.Statement.{statement}
 use Rattle.sheet.proofs.fields.read_word.Tie as tie
@@ -22,7 +22,9 @@ add-t4 : tie.Need-add-t4
 add-t4 c = search needs
 
 returns-2 : tie.Need-returns-2
-returns-2 c = rw (c .word-at .ensures) (sym (any-there (c .before .before .before .args .sheet .now) 4 (c .before .before .before .args .at) (omega arith)))
+returns-2 c =
+    let a = c .before .before .before .args in
+    rw (c .word-at .ensures, word-there (a .sheet .now) (a .at) (omega arith)) (sym (any-there (a .sheet .now) 4 (a .at) (omega arith)))
 
 pub read-word-spec : {M : Type 1} → statement M
 read-word-spec = tie.close (tie.spec sub-if1 cast-t6 returns word-at-requires add-t4 returns-2)

@@ -9,13 +9,15 @@ use lib.Dec.{leb}
 use lib.ListN.{length, getD, take, drop, take-append-drop, length-drop, length-take, drop-of-length-le}
 use lib.Seq.{take-suc, getD-drop, drop-drop, length-take-le}
 use borrow.Author.Tests.{le-leb}
 use Rattle.sheet.specs.declared.Sheet.{Sheet}
-use Rattle.sheet.specs.declared.SheetPacket.{SheetPacket}
 use Rattle.sheet.specs.Formats.{value}
-use Rattle.sheet.specs.Answers.{hallOf, sheetOf, codesPart, codesOf, packetPlace, packetPart, packetFields, packetAt}
-use Rattle.sheet.specs.Accepted.{packetCountOf, Accepted, Bytes, bytesOf, packetBytes, packetsBytes, encodingOf}
-use Rattle.sheet.proofs.Sheets.{codes-there, codes-answered, packet-answered}
+use Rattle.sheet.specs.Answers.{hallOf, sheetOf, packetPlace}
+use Rattle.sheet.specs.Accepted.{packetCountOf, Accepted}
 use Rattle.sheet.proofs.Held.{accepted-holds, holds-accepted}
+use Rattle.sheetparts.specs.declared.SheetPacket.{SheetPacket}
+use Rattle.sheetparts.specs.Parts.{codesPart, codesOf, packetPart, packetFields, packetAt}
+use Rattle.sheetparts.specs.Encoding.{Bytes, bytesOf, packetBytes, packetsBytes, encodingOf}
+use Rattle.sheetparts.proofs.Parts.{codes-there, codes-answered, packet-answered}
 
 module _ (s : List ℕ) (b : Bytes s) where
   -- a field's bytes are those of its value

@@ -1,13 +1,14 @@
--- `sheet::codes_part` meets its contract: the part is there, as the count says, or it is empty.
+-- `sheetparts::codes_part` meets its contract: the part is there, as the count says, or it is empty.
 use mathlib.Core.Path.{_≡_, sym, _∙_, ap}
 use Prim.Native.Nat.{ℕ, _+_, _-_, _≤_, _<_}
 use native.Mathlib.Omega.{arith}
 use lib.ListN.{length, take, drop}
 use Rattle.sheet.specs.Formats.{value}
-use Rattle.sheet.proofs.Sheets.{codes-short, codes-there}
+use Rattle.sheet.proofs.Reading.{word-there}
+use Rattle.sheetparts.proofs.Parts.{codes-short, codes-there}
 use borrow.Author.Needs.{needs}
-use Rattle.sheet.proofs.codes_part.Statement.{statement}
-use Rattle.sheet.proofs.codes_part.Tie as tie
+use Rattle.sheetparts.proofs.codes_part.Statement.{statement}
+use Rattle.sheetparts.proofs.codes_part.Tie as tie
 
 sub-result : tie.Need-sub-result
 sub-result c = search needs
@@ -39,8 +40,9 @@ part-result-end-2 c = search needs
 
 returns-2 : tie.Need-returns-2
 returns-2 c =
-    let w = c .before .before .word-at .ensures in
-    codes-short (c .before .before .before .before .before .args .sheet .now) (omega arith)
+    let s = c .before .before .before .before .before .args .sheet .now in
+    let e = c .before .before .word-at .ensures ∙ word-there s 7 (omega arith) in
+    codes-short s (omega arith)
 
 add-end : tie.Need-add-end
 add-end c = search needs
@@ -57,8 +59,10 @@ part-result-end-3 c = search needs
 returns-3 : tie.Need-returns-3
 returns-3 c =
     let w = c .before .before .word-at in
+    let s = c .before .before .before .before .before .args .sheet .now in
+    let e = w .ensures ∙ word-there s 7 (omega arith) in
     let d : 11 + w .result - 11 ≡ w .result = omega arith in
-    rw (d, w .ensures) (codes-there (c .before .before .before .before .before .args .sheet .now) (omega arith))
+    rw (d, e) (codes-there s (omega arith))
 
 pub codes-part-spec : {M : Type 1} → statement M
 codes-part-spec =

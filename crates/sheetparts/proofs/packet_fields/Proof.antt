@@ -1,13 +1,14 @@
--- `sheet::packet_fields` meets its contract: the bytes are there, at the place that the count and i give, or they are not.
+-- `sheetparts::packet_fields` meets its contract: the bytes are there, at the place that the count and i give, or they are not.
 use mathlib.Core.Path.{_≡_, sym, _∙_, ap}
 use Prim.Native.Nat.{ℕ, _+_, _*_, _≤_, _<_}
 use native.Mathlib.Omega.{arith}
 use lib.ListN.{length}
 use Rattle.sheet.specs.Formats.{value}
-use Rattle.sheet.proofs.Sheets.{packet-short, packet-there}
+use Rattle.sheet.proofs.Reading.{word-there}
+use Rattle.sheetparts.proofs.Parts.{packet-short, packet-there}
 use borrow.Author.Needs.{needs}
-use Rattle.sheet.proofs.packet_fields.Statement.{statement}
-use Rattle.sheet.proofs.packet_fields.Tie as tie
+use Rattle.sheetparts.proofs.packet_fields.Statement.{statement}
+use Rattle.sheetparts.proofs.packet_fields.Tie as tie
 
 packet-refused-requires : tie.Need-packet-refused-requires
 packet-refused-requires c κs = search needs
@@ -42,8 +43,9 @@ packet-refused-requires-2 c κs = search needs
 
 returns-2 : tie.Need-returns-2
 returns-2 c =
-    let w = c .before .before .word-at .ensures in
-    c .packet-refused2 .ensures ∙ packet-short (c .before .before .before .before .before .args .sheet .now) (c .before .before .before .before .before .args .i) (omega arith)
+    let a = c .before .before .before .before .before .args in
+    let e = c .before .before .word-at .ensures ∙ word-there (a .sheet .now) 7 (omega arith) in
+    c .packet-refused2 .ensures ∙ packet-short (a .sheet .now) (a .i) (omega arith)
 
 word-at-requires-2 : tie.Need-word-at-requires-2
 word-at-requires-2 c κs = search needs
@@ -70,7 +72,11 @@ returns-3 : tie.Need-returns-3
 returns-3 c =
     let w = c .before .before .before .before .before .word-at in
     let a = c .before .before .before .before .before .before .before .before .args in
-    packet-there (a .sheet .now) (a .i) (11 + w .result + 4 + 10 * a .i) _ _ (rw (w .ensures)) (omega arith) (c .before .before .before .word-at2 .ensures) (c .before .before .word-at3 .ensures)
+    let at = 11 + w .result + 4 + 10 * a .i in
+    let e = w .ensures ∙ word-there (a .sheet .now) 7 (omega arith) in
+    packet-there (a .sheet .now) (a .i) at _ _ (rw e) (omega arith)
+    (c .before .before .before .word-at2 .ensures ∙ word-there (a .sheet .now) at (omega arith))
+    (c .before .before .word-at3 .ensures ∙ word-there (a .sheet .now) (at + 4) (omega arith))
 
 pub packet-fields-spec : {M : Type 1} → statement M
 packet-fields-spec =

@@ -1,9 +1,9 @@
--- `sheet::codes_of` meets its contract: the sheet's refusal decides, and then the part.
+-- `sheetparts::codes_of` meets its contract: the sheet's refusal decides, and then the part.
 use mathlib.Core.Path.{_≡_, sym, _∙_}
-use Rattle.sheet.proofs.Sheets.{codes-refused, codes-answered}
+use Rattle.sheetparts.proofs.Parts.{codes-refused, codes-answered}
 use borrow.Author.Needs.{needs}
-use Rattle.sheet.proofs.codes_of.Statement.{statement}
-use Rattle.sheet.proofs.codes_of.Tie as tie
+use Rattle.sheetparts.proofs.codes_of.Statement.{statement}
+use Rattle.sheetparts.proofs.codes_of.Tie as tie
 
 read-sheet-requires : tie.Need-read-sheet-requires
 read-sheet-requires c κs = search needs

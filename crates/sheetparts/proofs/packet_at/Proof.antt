@@ -1,9 +1,9 @@
--- `sheet::packet_at` meets its contract: the sheet's refusal decides, then the number of packets, and then the bytes.
+-- `sheetparts::packet_at` meets its contract: the sheet's refusal decides, then the number of packets, and then the bytes.
 use mathlib.Core.Path.{_≡_, sym, _∙_}
-use Rattle.sheet.proofs.Sheets.{packet-of-refused, packet-past, packet-answered}
+use Rattle.sheetparts.proofs.Parts.{packet-of-refused, packet-past, packet-answered}
 use borrow.Author.Needs.{needs}
-use Rattle.sheet.proofs.packet_at.Statement.{statement}
-use Rattle.sheet.proofs.packet_at.Tie as tie
+use Rattle.sheetparts.proofs.packet_at.Statement.{statement}
+use Rattle.sheetparts.proofs.packet_at.Tie as tie
 
 read-sheet-requires : tie.Need-read-sheet-requires
 read-sheet-requires c κs = search needs

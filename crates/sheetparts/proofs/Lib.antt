@@ -1,0 +1,3 @@
+-- The laws.
+pub mod Parts
+pub mod Encoding
