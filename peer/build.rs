@@ -6,7 +6,13 @@ use std::path::PathBuf;
 /// The folder of the static libraries, seen from this package.
 const STATIC_LIBRARIES: &str = "../target/staticlib";
 /// The static libraries that `src/rattle.rs` names.
-const ARCHIVES: [&str; 3] = ["libcalls.a", "libdriver.a", "libsheetcalls.a"];
+const ARCHIVES: [&str; 5] = [
+    "libcalls.a",
+    "libdriver.a",
+    "libpartcalls.a",
+    "libsheetcalls.a",
+    "liblinecalls.a",
+];
 
 fn main() {
     let package = env::var_os("CARGO_MANIFEST_DIR").map_or_else(PathBuf::new, PathBuf::from);

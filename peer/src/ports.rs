@@ -27,10 +27,11 @@ pub fn check(h: Hall, table: &[u8]) -> TableCheck {
     if table.len() != scale.table_length(h.k, h.k) {
         return answer(refusal::LENGTH, 0);
     }
-    match first_unknown(table) {
-        Some(place) => answer(refusal::CODE, place as u32),
-        None => answer(refusal::NONE, 0),
+    let place = first_unknown(table);
+    if place < table.len() {
+        return answer(refusal::CODE, place as u32);
     }
+    answer(refusal::NONE, 0)
 }
 
 /// The refusal, or the part of the hall table that holds the DCell(b) of a server.
@@ -62,13 +63,29 @@ pub(crate) fn cell_part<'a>(
     table.get(start..end).unwrap_or(&[])
 }
 
-/// The index of the first unknown code.
-pub(crate) fn first_unknown(codes: &[u8]) -> Option<usize> {
-    let unknown = |&code: &u8| code > HIGHEST_CODE;
+/// Whether a port of a server has code 1 in a table of k + 1 ports a server; no port behind the table's end has.
+#[inline]
+pub fn is_up(h: Hall, table: &[u8], server: u32, port: u32) -> bool {
+    let place = u64::from(server) * (u64::from(h.k) + 1) + u64::from(port);
+    usize::try_from(place).is_ok_and(|place| table.get(place) == Some(&UP))
+}
+
+/// Whether a code is one of the known ones.
+#[inline]
+pub fn is_known(code: u8) -> bool {
+    code <= HIGHEST_CODE
+}
+
+/// The index of the first unknown code; the table's length where all are known.
+pub fn first_unknown(table: &[u8]) -> usize {
+    let unknown = |&code: &u8| !is_known(code);
     let any = |block: &[u8]| block.iter().fold(false, |any, code| any | unknown(code));
-    let bad = codes.chunks(BLOCK).position(any)? * BLOCK;
-    let inside = codes.get(bad..)?.iter().position(unknown)?;
-    Some(bad + inside)
+    let Some(block) = table.chunks(BLOCK).position(any) else {
+        return table.len();
+    };
+    let rest = table.get(block * BLOCK..).unwrap_or(&[]);
+    let inside = rest.iter().position(unknown).unwrap_or(rest.len());
+    block * BLOCK + inside
 }
 
 #[cfg(test)]
@@ -117,7 +134,8 @@ mod tests {
                     *code = 5 + random.byte() % 251;
                 }
             }
-            assert_eq!(first_unknown(&codes), codes.iter().position(|&c| c > 4));
+            let literal = codes.iter().position(|&c| c > 4).unwrap_or(length);
+            assert_eq!(first_unknown(&codes), literal);
         }
     }
 
@@ -154,5 +172,41 @@ mod tests {
         assert_eq!(part(HALL, &[1; 41], 99), (4, none));
         assert_eq!(part(HALL, &[1; 40], 20), (2, none));
         assert_eq!(part(HALL, &[7; 40], 19).0, 0);
+    }
+
+    #[test]
+    fn a_port_is_up_when_its_byte_is_there_and_is_1() {
+        let table: Vec<u8> = (0..40).map(|i| i % 5).collect();
+        for server in 0..25 {
+            for port in 0..4 {
+                let place = server * 2 + port;
+                let up = place < 40 && place % 5 == 1;
+                assert_eq!(is_up(HALL, &table, server, port), up);
+            }
+        }
+        assert!(!is_up(HALL, &[], 0, 0));
+    }
+
+    #[test]
+    fn a_port_of_any_hall_and_server_is_looked_up_without_a_wrap() {
+        let h = |k| Hall { n: 9, k, b: 9 };
+        assert!(is_up(h(u32::MAX), &[0, 1], 0, 1));
+        assert!(!is_up(h(u32::MAX), &[1; 40], 1, 0));
+        assert!(!is_up(h(1), &[1; 40], 1 << 31, 0));
+        assert!(!is_up(h(u32::MAX), &[1; 40], u32::MAX, u32::MAX));
+    }
+
+    #[test]
+    fn codes_0_to_4_are_known() {
+        for code in 0..=255 {
+            assert_eq!(is_known(code), [0, 1, 2, 3, 4].contains(&code));
+        }
+    }
+
+    #[test]
+    fn a_table_of_known_codes_has_its_length_as_the_first_unknown() {
+        for length in [0, 1, 255, 256, 257, 512, 1000] {
+            assert_eq!(first_unknown(&vec![4; length]), length);
+        }
     }
 }

@@ -1,4 +1,5 @@
-//! The proved calls, as the static libraries of the crates `calls`, `driver` and `sheetcalls` export them, behind safe functions.
+//! The proved calls, as the static libraries of the crates `calls`, `driver`, `partcalls`, `sheetcalls` and `linecalls` export them,
+//! behind safe functions.
 //!
 //! Nothing checks these declarations against the Rattle source: whoever changes a signature there changes it here. A slice is two
 //! arguments to Rattle, a pointer and a length, and is declared as two. A Rust slice would be one: where a single register is left
@@ -200,11 +201,49 @@ mod foreign {
         ) -> u32;
     }
 
+    #[link(name = "partcalls", kind = "static")]
+    unsafe extern "C" {
+        pub fn calls_n_fits(n: u32) -> bool;
+        pub fn calls_k_fits(n: u32, k: u32) -> bool;
+        pub fn calls_b_fits(k: u32, b: u32) -> bool;
+        pub fn calls_is_valid(n: u32, k: u32, b: u32) -> bool;
+        pub fn calls_servers(n: u32, k: u32, b: u32) -> u32;
+        pub fn calls_neighbour_over(size: u32, uid: u32) -> u64;
+        pub fn calls_near_end_over(size: u32, x: u32, y: u32) -> u64;
+        pub fn calls_far_end_over(size: u32, x: u32, y: u32) -> u64;
+        pub fn calls_first_link(
+            n: u32,
+            k: u32,
+            b: u32,
+            x: u32,
+            y: u32,
+            near: *mut u32,
+            far: *mut u32,
+        ) -> u32;
+        pub fn calls_is_up(
+            n: u32,
+            k: u32,
+            b: u32,
+            table: *const u8,
+            codes: usize,
+            server: u32,
+            port: u32,
+        ) -> bool;
+        pub fn calls_is_known(code: u8) -> bool;
+        pub fn calls_first_unknown(table: *const u8, codes: usize) -> usize;
+    }
+
     #[link(name = "sheetcalls", kind = "static")]
     unsafe extern "C" {
         pub fn calls_sheet(sheet: *const u8, bytes: usize, room: *mut u32, length: usize) -> u32;
         pub fn calls_sheet_place(sheet: *const u8, bytes: usize) -> u32;
         pub fn calls_sheet_codes(
+            sheet: *const u8,
+            bytes: usize,
+            room: *mut u8,
+            length: usize,
+        ) -> u32;
+        pub fn calls_codes_part(
             sheet: *const u8,
             bytes: usize,
             room: *mut u8,
@@ -218,6 +257,17 @@ mod foreign {
             length: usize,
         ) -> u32;
         pub fn calls_sheet_packet_place(sheet: *const u8, bytes: usize, i: u32) -> u32;
+        pub fn calls_packet_fields(
+            sheet: *const u8,
+            bytes: usize,
+            i: u32,
+            room: *mut u32,
+            length: usize,
+        ) -> u32;
+    }
+
+    #[link(name = "linecalls", kind = "static")]
+    unsafe extern "C" {
         pub fn calls_opening_line(
             sheet: *const u8,
             bytes: usize,
@@ -250,11 +300,73 @@ mod foreign {
         ) -> usize;
         pub fn calls_end_line(packets: u32, at: usize, room: *mut u8, length: usize) -> u32;
         pub fn calls_end_line_end(packets: u32, at: usize, room: *mut u8, length: usize) -> usize;
+        pub fn calls_hall_line(
+            n: u32,
+            k: u32,
+            b: u32,
+            at: usize,
+            room: *mut u8,
+            length: usize,
+        ) -> u32;
+        pub fn calls_hall_line_end(
+            n: u32,
+            k: u32,
+            b: u32,
+            at: usize,
+            room: *mut u8,
+            length: usize,
+        ) -> usize;
+        pub fn calls_refused_line(
+            number: u32,
+            place: u32,
+            at: usize,
+            room: *mut u8,
+            length: usize,
+        ) -> u32;
+        pub fn calls_refused_line_end(
+            number: u32,
+            place: u32,
+            at: usize,
+            room: *mut u8,
+            length: usize,
+        ) -> usize;
+        pub fn calls_packet_line(
+            source: u32,
+            dst: u32,
+            ending: u32,
+            links: u32,
+            reroutes: u32,
+            uids: *const u32,
+            count: usize,
+            at: usize,
+            room: *mut u8,
+            length: usize,
+        ) -> u32;
+        pub fn calls_packet_line_end(
+            source: u32,
+            dst: u32,
+            ending: u32,
+            links: u32,
+            reroutes: u32,
+            uids: *const u32,
+            count: usize,
+            at: usize,
+            room: *mut u8,
+            length: usize,
+        ) -> usize;
+        pub fn calls_written_part(
+            text: *const u8,
+            bytes: usize,
+            end: usize,
+            room: *mut u8,
+            length: usize,
+        ) -> u32;
     }
 }
 
-// SAFETY, of every call below: the exported functions have no `requires`, and read and write nothing but the slices lent to them;
-// pointer and length are those of a slice that is borrowed, for writing alone where it is a room, until the call returns.
+// SAFETY, of every call below: the exported functions have no `requires`, and read and write nothing but the slices and numbers lent to
+// them; pointer and length are those of a slice, and a pointer alone that of a number, that is borrowed, for writing alone where it is
+// written to, until the call returns.
 
 /// The sizes of a hall.
 #[inline]
@@ -297,6 +409,54 @@ pub fn link(h: Hall, uid: u32, level: u32, p: u32, q: u32, room: &mut [u32]) -> 
     unsafe { foreign::calls_link(h.n, h.k, h.b, uid, level, p, q, start, length) }
 }
 
+/// Whether n is in its range.
+#[inline]
+pub fn n_fits(n: u32) -> bool {
+    unsafe { foreign::calls_n_fits(n) }
+}
+
+/// Whether k is in its range, in a hall of n servers to a switch.
+#[inline]
+pub fn k_fits(n: u32, k: u32) -> bool {
+    unsafe { foreign::calls_k_fits(n, k) }
+}
+
+/// Whether b is in its range, in a hall of top level k.
+#[inline]
+pub fn b_fits(k: u32, b: u32) -> bool {
+    unsafe { foreign::calls_b_fits(k, b) }
+}
+
+/// Whether there is such a hall.
+#[inline]
+pub fn is_valid(h: Hall) -> bool {
+    unsafe { foreign::calls_is_valid(h.n, h.k, h.b) }
+}
+
+/// The servers of a hall; 0 where there is no such hall.
+#[inline]
+pub fn servers(h: Hall) -> u32 {
+    unsafe { foreign::calls_servers(h.n, h.k, h.b) }
+}
+
+/// Who is joined to a server over sub-cells of a size.
+#[inline]
+pub fn neighbour_over(size: u32, uid: u32) -> u64 {
+    unsafe { foreign::calls_neighbour_over(size, uid) }
+}
+
+/// The end on the side of x of the link between the sub-cells of x and y, over sub-cells of a size.
+#[inline]
+pub fn near_end_over(size: u32, x: u32, y: u32) -> u64 {
+    unsafe { foreign::calls_near_end_over(size, x, y) }
+}
+
+/// Its end on the side of y.
+#[inline]
+pub fn far_end_over(size: u32, x: u32, y: u32) -> u64 {
+    unsafe { foreign::calls_far_end_over(size, x, y) }
+}
+
 /// The check of a hall table: its refusal.
 #[inline]
 pub fn check(h: Hall, table: &[u8]) -> u32 {
@@ -317,6 +477,25 @@ pub fn part(h: Hall, table: &[u8], uid: u32, room: &mut [u8]) -> u32 {
     unsafe { foreign::calls_part(h.n, h.k, h.b, codes, count, uid, start, length) }
 }
 
+/// Whether a port of a server is up.
+#[inline]
+pub fn is_up(h: Hall, table: &[u8], server: u32, port: u32) -> bool {
+    let (codes, count) = (table.as_ptr(), table.len());
+    unsafe { foreign::calls_is_up(h.n, h.k, h.b, codes, count, server, port) }
+}
+
+/// Whether a code is known.
+#[inline]
+pub fn is_known(code: u8) -> bool {
+    unsafe { foreign::calls_is_known(code) }
+}
+
+/// Where the first unknown code of a table stands; its length where there is none.
+#[inline]
+pub fn first_unknown(table: &[u8]) -> usize {
+    unsafe { foreign::calls_first_unknown(table.as_ptr(), table.len()) }
+}
+
 /// The uids of the route from x to y, zeros behind them.
 #[inline]
 pub fn route(h: Hall, x: u32, y: u32, room: &mut [u32]) -> u32 {
@@ -333,6 +512,12 @@ pub fn route_links(h: Hall, x: u32, y: u32) -> u32 {
 #[inline]
 pub fn driver_route(h: Hall, x: u32, y: u32, room: &mut [u8]) -> u32 {
     unsafe { foreign::tbexlum_route(h.n, h.k, h.b, x, y, room.as_mut_ptr(), room.len()) }
+}
+
+/// The level of the first link above b of the route from x to y, with its ends written; zeros where there is none.
+#[inline]
+pub fn first_link(h: Hall, x: u32, y: u32, near: &mut u32, far: &mut u32) -> u32 {
+    unsafe { foreign::calls_first_link(h.n, h.k, h.b, x, y, near, far) }
 }
 
 /// The distances from a server to all of its DCell(b).
@@ -512,6 +697,13 @@ pub fn sheet_codes(sheet: &[u8], room: &mut [u8]) -> u32 {
     unsafe { foreign::calls_sheet_codes(sheet.as_ptr(), sheet.len(), start, length) }
 }
 
+/// The part of a sheet behind its second count, as long as that says.
+#[inline]
+pub fn codes_part(sheet: &[u8], room: &mut [u8]) -> u32 {
+    let (start, length) = (room.as_mut_ptr(), room.len());
+    unsafe { foreign::calls_codes_part(sheet.as_ptr(), sheet.len(), start, length) }
+}
+
 /// A packet of a sheet.
 #[inline]
 pub fn sheet_packet(sheet: &[u8], i: u32, room: &mut [u32]) -> u32 {
@@ -523,6 +715,13 @@ pub fn sheet_packet(sheet: &[u8], i: u32, room: &mut [u32]) -> u32 {
 #[inline]
 pub fn sheet_packet_place(sheet: &[u8], i: u32) -> u32 {
     unsafe { foreign::calls_sheet_packet_place(sheet.as_ptr(), sheet.len(), i) }
+}
+
+/// The fields of a packet of a sheet by their bytes, whatever the sheet is.
+#[inline]
+pub fn packet_fields(sheet: &[u8], i: u32, room: &mut [u32]) -> u32 {
+    let (start, length) = (room.as_mut_ptr(), room.len());
+    unsafe { foreign::calls_packet_fields(sheet.as_ptr(), sheet.len(), i, start, length) }
 }
 
 /// The first line of a sheet's trace, written at a place: its refusal.
@@ -563,4 +762,75 @@ pub fn end_line(packets: u32, at: usize, room: &mut [u8]) -> u32 {
 #[inline]
 pub fn end_line_end(packets: u32, at: usize, room: &mut [u8]) -> usize {
     unsafe { foreign::calls_end_line_end(packets, at, room.as_mut_ptr(), room.len()) }
+}
+
+/// The line of a hall, written at a place: its refusal.
+#[inline]
+pub fn hall_line(h: Hall, at: usize, room: &mut [u8]) -> u32 {
+    unsafe { foreign::calls_hall_line(h.n, h.k, h.b, at, room.as_mut_ptr(), room.len()) }
+}
+
+/// The same line, written in the same way: the place behind it.
+#[inline]
+pub fn hall_line_end(h: Hall, at: usize, room: &mut [u8]) -> usize {
+    unsafe { foreign::calls_hall_line_end(h.n, h.k, h.b, at, room.as_mut_ptr(), room.len()) }
+}
+
+/// The line of a refused sheet, written at a place: its refusal.
+#[inline]
+pub fn refused_line(number: u32, place: u32, at: usize, room: &mut [u8]) -> u32 {
+    unsafe { foreign::calls_refused_line(number, place, at, room.as_mut_ptr(), room.len()) }
+}
+
+/// The same line, written in the same way: the place behind it.
+#[inline]
+pub fn refused_line_end(number: u32, place: u32, at: usize, room: &mut [u8]) -> usize {
+    unsafe { foreign::calls_refused_line_end(number, place, at, room.as_mut_ptr(), room.len()) }
+}
+
+/// The line of a packet, by its source, dst, ending, links, reroutes and uids, written at a place: its refusal.
+#[inline]
+pub fn packet_line(told: [u32; 5], uids: &[u32], at: usize, room: &mut [u8]) -> u32 {
+    let [source, dst, ending, links, reroutes] = told;
+    unsafe {
+        foreign::calls_packet_line(
+            source,
+            dst,
+            ending,
+            links,
+            reroutes,
+            uids.as_ptr(),
+            uids.len(),
+            at,
+            room.as_mut_ptr(),
+            room.len(),
+        )
+    }
+}
+
+/// The same line, written in the same way: the place behind it.
+#[inline]
+pub fn packet_line_end(told: [u32; 5], uids: &[u32], at: usize, room: &mut [u8]) -> usize {
+    let [source, dst, ending, links, reroutes] = told;
+    unsafe {
+        foreign::calls_packet_line_end(
+            source,
+            dst,
+            ending,
+            links,
+            reroutes,
+            uids.as_ptr(),
+            uids.len(),
+            at,
+            room.as_mut_ptr(),
+            room.len(),
+        )
+    }
+}
+
+/// The first bytes of a text, up to an end.
+#[inline]
+pub fn written_part(text: &[u8], end: usize, room: &mut [u8]) -> u32 {
+    let (start, length) = (room.as_mut_ptr(), room.len());
+    unsafe { foreign::calls_written_part(text.as_ptr(), text.len(), end, start, length) }
 }

@@ -1,12 +1,15 @@
 //! The text of the trace program: every journey of a night sheet, or the sheet's refusal.
 
-use crate::forward::{self, Journey, Packet};
+use crate::forward::{self, Packet};
+use crate::hall::Hall;
 use crate::sheet::{self, Fault, Parts, SheetPacket, PACKET_BYTES};
 
 /// The room set aside for each packet's line.
 const LINE_ROOM: usize = 64;
 /// The most digits of a number.
 const DIGITS: usize = 10;
+/// The most uids that a packet's line tells: those of the longest journey.
+const MOST_UIDS: usize = 256;
 
 /// The whole text of the trace program for a sheet.
 pub fn trace(sheet: &[u8]) -> Vec<u8> {
@@ -16,18 +19,55 @@ pub fn trace(sheet: &[u8]) -> Vec<u8> {
     }
 }
 
-/// The one line of a refused sheet.
+/// Adds the line of a hall.
+pub fn hall_line(text: &mut Vec<u8>, h: Hall) {
+    put_line(text, b"HALL", &[h.n, h.k, h.b]);
+}
+
+/// Adds the line of a refused sheet.
+pub fn refused_line(text: &mut Vec<u8>, number: u32, place: u32) {
+    put_line(text, b"REFUSED", &[number, place]);
+}
+
+/// Adds the line of a packet, with the first links + 1 of the uids, at most `MOST_UIDS`, or all that there are.
+pub fn packet_line(
+    text: &mut Vec<u8>,
+    source: u32,
+    dst: u32,
+    ending: u32,
+    links: u32,
+    reroutes: u32,
+    uids: &[u32],
+) {
+    put_number(text, source);
+    put_spaced(text, dst);
+    put_ending(text, ending);
+    put_spaced(text, links);
+    put_spaced(text, reroutes);
+    text.extend_from_slice(b" :");
+    let told = (links as usize).saturating_add(1).min(MOST_UIDS);
+    for &uid in uids.iter().take(told) {
+        put_spaced(text, uid);
+    }
+    text.push(b'\n');
+}
+
+/// The first `end` bytes of the room; the whole room where it has fewer.
+pub fn written_part(room: &[u8], end: usize) -> &[u8] {
+    room.get(..end).unwrap_or(room)
+}
+
+/// The text of a refused sheet.
 fn refused(fault: Fault) -> Vec<u8> {
     let mut text = Vec::with_capacity(LINE_ROOM);
-    put_line(&mut text, b"REFUSED", &[fault.refusal, fault.place]);
+    refused_line(&mut text, fault.refusal, fault.place);
     text
 }
 
 /// The lines of a sound sheet.
 fn report(parts: &Parts) -> Vec<u8> {
-    let hall = parts.hall;
     let mut text = Vec::with_capacity((parts.packets.len() + 2) * LINE_ROOM);
-    put_line(&mut text, b"HALL", &[hall.n, hall.k, hall.b]);
+    hall_line(&mut text, parts.hall);
     for bytes in parts.packets {
         put_journey(&mut text, parts, bytes);
     }
@@ -39,16 +79,15 @@ fn report(parts: &Parts) -> Vec<u8> {
 fn put_journey(text: &mut Vec<u8>, parts: &Parts, bytes: &[u8; PACKET_BYTES]) {
     let told = sheet::packet_of(bytes);
     let journey = forward::journey(parts.hall, told.source, packet(&told), parts.codes);
-    put_number(text, told.source);
-    put_spaced(text, told.dst);
-    text.extend_from_slice(ending_name(journey.ending));
-    put_spaced(text, journey.links);
-    put_spaced(text, journey.reroutes);
-    text.extend_from_slice(b" :");
-    for &uid in passed(&journey) {
-        put_spaced(text, uid);
-    }
-    text.push(b'\n');
+    packet_line(
+        text,
+        told.source,
+        told.dst,
+        journey.ending,
+        journey.links,
+        journey.reroutes,
+        &journey.uids,
+    );
 }
 
 /// The packet to send, which has no proxy.
@@ -62,21 +101,14 @@ fn packet(told: &SheetPacket) -> Packet {
     }
 }
 
-/// The uids that a journey passed.
-fn passed(journey: &Journey) -> &[u32] {
-    let count = journey.links as usize + 1;
-    journey.uids.get(..count).unwrap_or(&journey.uids)
-}
-
-/// The name of an ending, behind a space.
-fn ending_name(ending: u32) -> &'static [u8] {
-    match ending {
-        forward::DROP_TTL => b" DROP1",
-        forward::DROP_NO_ROUTE => b" DROP2",
-        forward::DROP_RETRY => b" DROP3",
-        forward::DROP_NO_PROXY => b" DROP4",
-        _ => b" DELIVERED",
+/// Adds a space and an ending: delivered by its word, any other as a drop with its number.
+fn put_ending(text: &mut Vec<u8>, ending: u32) {
+    if ending == forward::DELIVERED {
+        text.extend_from_slice(b" DELIVERED");
+        return;
     }
+    text.extend_from_slice(b" DROP");
+    put_number(text, ending);
 }
 
 /// Adds a line of a word and numbers.
@@ -199,5 +231,68 @@ mod tests {
             put_number(&mut text, number);
             assert_eq!(text, number.to_string().into_bytes());
         }
+    }
+
+    /// The text that a writer of lines adds behind a text that is there.
+    fn added(write: impl Fn(&mut Vec<u8>)) -> String {
+        let mut text = b"there".to_vec();
+        write(&mut text);
+        String::from_utf8(text.split_off(5)).unwrap()
+    }
+
+    #[test]
+    fn lines_of_halls_and_refusals_take_any_numbers() {
+        let (n, k, b) = (0, 77, u32::MAX);
+        let line = added(|text| hall_line(text, Hall { n, k, b }));
+        assert_eq!(line, "HALL 0 77 4294967295\n");
+        let line = added(|text| refused_line(text, 10, 65_536));
+        assert_eq!(line, "REFUSED 10 65536\n");
+        let line = added(|text| refused_line(text, u32::MAX, 0));
+        assert_eq!(line, "REFUSED 4294967295 0\n");
+    }
+
+    #[test]
+    fn a_packet_line_has_links_and_one_more_uids_or_all_that_there_are() {
+        let line = |links, uids: &[u32]| added(|text| packet_line(text, 0, 19, 5, links, 1, uids));
+        let uids = [0, 4, 7, 17, 19];
+        assert_eq!(line(4, &uids), "0 19 DELIVERED 4 1 : 0 4 7 17 19\n");
+        assert_eq!(line(1, &uids), "0 19 DELIVERED 1 1 : 0 4\n");
+        assert_eq!(line(0, &uids), "0 19 DELIVERED 0 1 : 0\n");
+        assert_eq!(line(5, &uids), "0 19 DELIVERED 5 1 : 0 4 7 17 19\n");
+        let all = "0 19 DELIVERED 4294967295 1 : 0 4 7 17 19\n";
+        assert_eq!(line(u32::MAX, &uids), all);
+        assert_eq!(line(0, &[]), "0 19 DELIVERED 0 1 :\n");
+    }
+
+    #[test]
+    fn a_packet_line_tells_at_most_256_uids() {
+        let line = added(|text| packet_line(text, 0, 1, 5, u32::MAX, 0, &[7; 300]));
+        assert_eq!(
+            line.split_once(" : ").unwrap().1.split(' ').count(),
+            MOST_UIDS
+        );
+    }
+
+    #[test]
+    fn delivered_has_its_word_and_any_other_ending_is_a_drop_with_its_number() {
+        for ending in [0, 1, 2, 3, 4, 5, 6, 255, u32::MAX] {
+            let word = match ending {
+                5 => "DELIVERED".to_string(),
+                other => format!("DROP{other}"),
+            };
+            let line = added(|text| packet_line(text, 1, 2, ending, 0, 3, &[9]));
+            assert_eq!(line, format!("1 2 {word} 0 3 : 9\n"));
+        }
+    }
+
+    #[test]
+    fn the_written_part_is_the_start_of_the_room_or_all_of_it() {
+        let room = [1, 2, 3];
+        for end in 0..=3 {
+            assert_eq!(written_part(&room, end), &room[..end]);
+        }
+        assert_eq!(written_part(&room, 4), room);
+        assert_eq!(written_part(&room, usize::MAX), room);
+        assert_eq!(written_part(&[], 1), []);
     }
 }

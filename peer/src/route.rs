@@ -38,6 +38,17 @@ pub fn route(h: Hall, x: u32, y: u32) -> Route {
     }
 }
 
+/// The near end, the far end and the level of the first link above level b on the route from x to y.
+pub fn first_link(h: Hall, x: u32, y: u32) -> Option<(u32, u32, u32)> {
+    let scale = hall::scale(h)?;
+    let count = scale.size(h.k);
+    if x >= count || y >= count {
+        return None;
+    }
+    let way = Way::between(h, scale, x, y);
+    (way.level > 0).then(|| (scale.first(x, h.b) + way.near as u32, way.far, way.level))
+}
+
 /// Writes the uids of the route from x to y to the start of the room as big-endian words; answers the refusal.
 pub fn route_words(h: Hall, x: u32, y: u32, room: &mut [u8]) -> u32 {
     let route = route(h, x, y);
@@ -51,6 +62,43 @@ pub fn route_words(h: Hall, x: u32, y: u32, room: &mut [u8]) -> u32 {
     };
     written.copy_from_slice(words);
     refusal::NONE
+}
+
+/// The first link above level b on a route: its level (0 for no such link), its near end as a place, its far end as a uid.
+/// Where there is no such link, the near end is the goal.
+pub(crate) struct Way {
+    pub(crate) level: u32,
+    pub(crate) near: usize,
+    pub(crate) far: u32,
+}
+
+impl Way {
+    /// The way from a server to a goal; places count from the first server of its DCell(b) on.
+    ///
+    /// At each level from the top, a crossing into another sub-cell makes its near end the goal of the levels below.
+    #[inline]
+    pub(crate) fn between(h: Hall, scale: &Scale, uid: u32, goal: u32) -> Way {
+        let (mut first, mut from, mut to) = (0, uid, goal);
+        let (mut level, mut far) = (0, 0);
+        for l in (h.b + 1..=h.k).rev() {
+            let size = scale.size(l - 1);
+            let p = scale.cells_below(from, l - 1);
+            let q = scale.cells_below(to, l - 1);
+            from -= p * size;
+            to -= q * size;
+            if p != q {
+                level = l;
+                far = first + q * size + door(q, p);
+                to = door(p, q);
+            }
+            first += p * size;
+        }
+        Way {
+            level,
+            near: to as usize,
+            far,
+        }
+    }
 }
 
 /// The route between two servers of a hall of top level K, with all its loops of fixed length.
@@ -264,5 +312,55 @@ mod tests {
                 assert_eq!(words, route(h, x, y).uids);
             }
         }
+    }
+
+    /// The first link above level b, looked for along the route of the definition.
+    fn literal_first_link(h: Hall, x: u32, y: u32) -> Option<(u32, u32, u32)> {
+        let servers = naive::route(h, x, y);
+        let mut links = servers
+            .windows(2)
+            .map(|pair| (pair[0], pair[1], naive::joint_level(h, pair[0], pair[1])));
+        links.find(|&(_, _, level)| level > h.b)
+    }
+
+    #[test]
+    fn the_first_link_above_b_is_that_of_the_definition() {
+        for h in naive::small_halls() {
+            let count = naive::servers(h);
+            let stride = 1 + (count / 60) as usize;
+            for x in (0..count).step_by(stride) {
+                for y in (0..count).step_by(stride) {
+                    assert_eq!(first_link(h, x, y), literal_first_link(h, x, y));
+                }
+            }
+        }
+        let mut random = Random::new(5);
+        for (n, b) in (3..=8).flat_map(|n| [(n, 0), (n, 1)]) {
+            let h = Hall { n, k: 3, b };
+            let count = naive::servers(h);
+            for _ in 0..2000 {
+                let (x, y) = (random.below(count), random.below(count));
+                assert_eq!(first_link(h, x, y), literal_first_link(h, x, y));
+            }
+        }
+    }
+
+    #[test]
+    fn the_first_link_from_5_to_11_is_4_1_and_above_level_1_it_is_0_6() {
+        assert_eq!(first_link(PAIR_HALL, 5, 11), Some((4, 1, 1)));
+        let wide = Hall { b: 1, ..PAIR_HALL };
+        assert_eq!(first_link(wide, 5, 11), Some((0, 6, 2)));
+    }
+
+    #[test]
+    fn there_is_no_first_link_inside_a_local_cell_or_for_what_is_refused() {
+        assert_eq!(first_link(PAIR_HALL, 5, 5), None);
+        assert_eq!(first_link(PAIR_HALL, 5, 4), None);
+        assert_eq!(first_link(Hall { n: 2, k: 2, b: 1 }, 5, 0), None);
+        assert_eq!(first_link(Hall { n: 4, k: 0, b: 0 }, 0, 3), None);
+        assert_eq!(first_link(Hall { n: 2, k: 2, b: 2 }, 5, 11), None);
+        assert_eq!(first_link(PAIR_HALL, 42, 11), None);
+        assert_eq!(first_link(PAIR_HALL, 5, 42), None);
+        assert_eq!(first_link(PAIR_HALL, u32::MAX, u32::MAX), None);
     }
 }

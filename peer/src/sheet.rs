@@ -12,6 +12,10 @@ pub const PACKET_BYTES: usize = 10;
 
 /// The right first count: the bytes n, k and b.
 const HALL_BYTES: u32 = 3;
+/// The bytes of a count.
+const COUNT_BYTES: usize = 4;
+/// The offset of the second count, that of the codes.
+const CODES_COUNT_OFFSET: usize = COUNT_BYTES + HALL_BYTES as usize;
 /// The offset of dst in a packet.
 const DST_OFFSET: usize = 4;
 /// The offset of the retry in a packet.
@@ -87,6 +91,37 @@ pub fn packet(sheet: &[u8], i: u32) -> SheetPacket {
         Some(bytes) => packet_of(bytes),
         None => refused(refusal::RANGE, 0),
     }
+}
+
+/// As many bytes behind the second count as it says, whatever else the sheet holds; none where they are not all there.
+pub fn codes_part(sheet: &[u8]) -> &[u8] {
+    split_behind_codes(sheet).map_or(&[], |(codes, _)| codes)
+}
+
+/// The fields of the packet of an index by their place alone, whatever else the sheet holds; zeros where they are not all there.
+pub fn packet_fields(sheet: &[u8], i: u32) -> SheetPacket {
+    let behind = split_behind_codes(sheet).and_then(|(_, behind)| behind.get(COUNT_BYTES..));
+    let (packets, _) = behind.unwrap_or(&[]).as_chunks();
+    packet_of(packets.get(i as usize).unwrap_or(&[0; PACKET_BYTES]))
+}
+
+/// The big-endian number in the four bytes at a place; 0 where they are not all there.
+#[inline]
+pub fn word_at(sheet: &[u8], at: usize) -> u32 {
+    whole_word(sheet, at).unwrap_or(0)
+}
+
+/// The word at a place; none where its bytes are not all there.
+#[inline]
+fn whole_word(sheet: &[u8], at: usize) -> Option<u32> {
+    let bytes = sheet.get(at..)?.first_chunk()?;
+    Some(u32::from_be_bytes(*bytes))
+}
+
+/// The bytes that the second count says and those behind them; none where they are not all there.
+fn split_behind_codes(sheet: &[u8]) -> Option<(&[u8], &[u8])> {
+    let (count, behind) = sheet.get(CODES_COUNT_OFFSET..)?.split_first_chunk()?;
+    behind.split_at_checked(u32::from_be_bytes(*count) as usize)
 }
 
 /// The packet of its bytes.
@@ -167,10 +202,10 @@ impl<'a> Reader<'a> {
         self.sheet.get(self.at..).unwrap_or(&[])
     }
 
-    /// A byte of the hall, which is at least one number and at most another.
-    fn byte(&mut self, least: u32, most: u32) -> Result<u32, Fault> {
+    /// A byte of the hall, which fits.
+    fn byte(&mut self, fits: impl Fn(u32) -> bool) -> Result<u32, Fault> {
         let byte = u32::from(*self.rest().first().ok_or(self.cut())?);
-        if byte < least || byte > most {
+        if !fits(byte) {
             return Err(Fault::at(refusal::HALL, self.at));
         }
         self.at += 1;
@@ -179,9 +214,9 @@ impl<'a> Reader<'a> {
 
     /// A word.
     fn word(&mut self) -> Result<u32, Fault> {
-        let bytes = self.rest().first_chunk().ok_or(self.cut())?;
-        self.at += bytes.len();
-        Ok(u32::from_be_bytes(*bytes))
+        let word = whole_word(self.sheet, self.at).ok_or(self.cut())?;
+        self.at += COUNT_BYTES;
+        Ok(word)
     }
 
     /// A count that can only be one number.
@@ -195,9 +230,9 @@ impl<'a> Reader<'a> {
 
     /// n, k and b.
     fn hall(&mut self) -> Result<Hall, Fault> {
-        let n = self.byte(hall::LEAST_N, hall::MOST_N)?;
-        let k = self.byte(0, hall::MOST_K)?;
-        let b = self.byte(0, hall::MOST_B.min(k))?;
+        let n = self.byte(hall::n_fits)?;
+        let k = self.byte(|k| hall::k_fits(n, k))?;
+        let b = self.byte(|b| hall::b_fits(k, b))?;
         Ok(Hall { n, k, b })
     }
 
@@ -205,7 +240,8 @@ impl<'a> Reader<'a> {
     fn codes(&mut self, length: usize) -> Result<&'a [u8], Fault> {
         let rest = self.rest();
         let codes = rest.get(..length).unwrap_or(rest);
-        if let Some(bad) = ports::first_unknown(codes) {
+        let bad = ports::first_unknown(codes);
+        if bad < codes.len() {
             return Err(Fault::at(refusal::CODE, self.at + bad));
         }
         if codes.len() < length {
@@ -553,5 +589,125 @@ mod tests {
             sound += u32::from(answer.refusal == 0);
         }
         assert!(sound > 100);
+    }
+
+    #[test]
+    fn a_word_is_told_where_its_four_bytes_are_and_0_elsewhere() {
+        let sheet = [1, 2, 3, 4, 255, 254];
+        let words = [0x0102_0304, 0x0203_04FF, 0x0304_FFFE];
+        for (at, word) in words.into_iter().enumerate() {
+            assert_eq!(word_at(&sheet, at), word);
+            assert_eq!(word_at(&sheet[..at + 3], at), 0);
+        }
+        for at in (3..20).chain(usize::MAX - 9..=usize::MAX) {
+            assert_eq!(word_at(&sheet, at), 0);
+        }
+        assert_eq!(word_at(&[], 0), 0);
+        assert_eq!(word_at(&[255; 4], 0), u32::MAX);
+    }
+
+    #[test]
+    fn the_words_of_the_sample_sheet_are_its_counts_and_uids() {
+        let sheet = sample(2);
+        let places = [0, 7, COUNT_3, PACKETS, PACKETS + 4];
+        assert_eq!(places.map(|at| word_at(&sheet, at)), [3, 40, 2, 0, 19]);
+    }
+
+    /// The codes and the fields of a packet by their place, one byte after the other.
+    fn literal_parts(sheet: &[u8], i: u32) -> (&[u8], [u32; 4]) {
+        let length = sheet.len() as u64;
+        if length < 11 {
+            return (&[], [0; 4]);
+        }
+        let word = |at: u64| (at..at + 4).fold(0, |sum, i| sum << 8 | u32::from(sheet[i as usize]));
+        let end = 11 + u64::from(word(7));
+        if length < end {
+            return (&[], [0; 4]);
+        }
+        let codes = &sheet[11..end as usize];
+        let at = end + 4 + u64::from(i) * 10;
+        if length < at + 10 {
+            return (codes, [0; 4]);
+        }
+        let byte = |at: u64| u32::from(sheet[at as usize]);
+        (codes, [word(at), word(at + 4), byte(at + 8), byte(at + 9)])
+    }
+
+    fn told(fields: [u32; 4]) -> SheetPacket {
+        SheetPacket {
+            refusal: 0,
+            place: 0,
+            source: fields[0],
+            dst: fields[1],
+            retry: fields[2],
+            ttl: fields[3],
+        }
+    }
+
+    #[test]
+    fn the_parts_of_a_sound_sheet_are_its_codes_and_packets() {
+        let sheet = with(sample(3), PACKETS + 13, 7);
+        assert_eq!(read(&sheet).packets, 3);
+        assert_eq!(codes_part(&sheet), codes(&sheet));
+        for i in 0..3 {
+            assert_eq!(packet_fields(&sheet, i), packet(&sheet, i));
+        }
+        assert_eq!(packet_fields(&sheet, 1), told([7, 19, 5, 15]));
+    }
+
+    #[test]
+    fn the_parts_are_told_whatever_else_the_sheet_holds() {
+        let mut sheet = vec![9; 7];
+        sheet.extend([0, 0, 0, 2, 77, 88, 0, 0, 0, 0]);
+        sheet.extend([1, 2, 3, 4, 5, 6, 7, 8, 99, 255]);
+        assert_eq!(codes_part(&sheet), [77, 88]);
+        assert_eq!(
+            packet_fields(&sheet, 0),
+            told([0x0102_0304, 0x0506_0708, 99, 255])
+        );
+        assert_eq!(packet_fields(&sheet, 1), told([0; 4]));
+    }
+
+    #[test]
+    fn the_packet_of_an_index_that_wraps_as_an_offset_is_zeros() {
+        let sheet = sample(3);
+        for i in [3, 429_496_730, 1 << 31, u32::MAX] {
+            assert_eq!(packet_fields(&sheet, i), told([0; 4]));
+        }
+    }
+
+    #[test]
+    fn the_parts_of_a_cut_sheet_are_those_that_are_all_there() {
+        let sheet = sample(2);
+        for length in 0..=sheet.len() {
+            let cut = &sheet[..length];
+            assert_eq!(codes_part(cut).len(), if length < COUNT_3 { 0 } else { 40 });
+            for (i, end) in [(0, PACKETS + 10), (1, PACKETS + 20)] {
+                let there = if length < end { [0; 4] } else { [0, 19, 5, 15] };
+                assert_eq!(packet_fields(cut, i), told(there));
+            }
+        }
+    }
+
+    #[test]
+    fn the_parts_of_damaged_sheets_are_told_as_by_the_literal_reader() {
+        let mut random = Random::new(40);
+        for _ in 0..20_000 {
+            let mut sheet = sample(random.below(4) as usize);
+            for _ in 0..random.below(3) {
+                let at = random.below(sheet.len() as u32) as usize;
+                sheet[at] = random.byte() >> random.below(8);
+            }
+            if random.once_in(2) {
+                sheet[10] = random.byte() >> random.below(8);
+            }
+            if random.once_in(2) {
+                sheet.truncate(random.below(sheet.len() as u32 + 1) as usize);
+            }
+            let i = random.below(4);
+            let (codes, fields) = literal_parts(&sheet, i);
+            assert_eq!(codes_part(&sheet), codes);
+            assert_eq!(packet_fields(&sheet, i), told(fields));
+        }
     }
 }

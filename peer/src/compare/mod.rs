@@ -8,6 +8,7 @@ mod chains;
 pub mod failures;
 mod frames;
 mod inputs;
+mod numbers;
 mod packets;
 mod pairs;
 pub mod ratios;
@@ -52,7 +53,7 @@ fn row(call: &Listed, tally: &Tally) -> String {
 
 /// A line of the table, its columns one below the other.
 fn line(call: &str, inputs: &str, met: &str, differences: &str) -> String {
-    format!("{call:<12} | {inputs:>9} | {met:<92} | {differences}")
+    format!("{call:<14} | {inputs:>9} | {met:<92} | {differences}")
 }
 
 /// What is wrong with one call, a text each: the first inputs that differ, numbers never met, and numbers that it cannot give.

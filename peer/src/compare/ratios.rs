@@ -64,7 +64,7 @@ impl Measure {
 
 /// A line of the benchmark, its columns one below the other.
 fn line(call: &str, case: &str, median: &str, spread: &str) -> String {
-    format!("{call:<12} | {case:<26} | {median:>6} | {spread}")
+    format!("{call:<14} | {case:<26} | {median:>6} | {spread}")
 }
 
 /// The rows of a call, one for each kind of its cases in their order.

@@ -32,6 +32,12 @@ impl Element for u32 {
     }
 }
 
+impl Element for u64 {
+    fn any(random: &mut Random) -> u64 {
+        random.bits()
+    }
+}
+
 /// Room with its margins; two are equal only where their margins are.
 #[derive(Clone, PartialEq)]
 pub struct Room<E> {

@@ -43,6 +43,10 @@ const SURPLUS: u32 = 25;
 const SHOWN: usize = 400;
 /// So many sheets are drawn for each kind of damage at an edge of a class.
 const TRIED: usize = 4;
+/// The sheets that are tried with every second count have at most so many bytes.
+const COUNTED: u32 = 50;
+/// The largest hall that a sheet has room for.
+pub const LARGEST_HALL: Hall = Hall { n: 8, k: 2, b: 0 };
 /// The smallest hall.
 const SMALLEST: Hall = Hall { n: 2, k: 0, b: 0 };
 /// The sheet of docs/RULES.md: its hall, the places of its codes 2, and its packet.
@@ -221,6 +225,21 @@ pub fn edge_sheets() -> impl Iterator<Item = Sheet> {
         Sheet(bytes)
     });
     cuts.chain(changed).chain(hall_sheets())
+}
+
+/// Sheets of every short length with every second count up to a little past it and some that are huge; each other byte is its place.
+pub fn counted_sheets() -> impl Iterator<Item = Sheet> {
+    (0..=COUNTED).flat_map(|length| {
+        let counts = (0..=length + 1).chain([256, 65_536, 1 << 31, u32::MAX - 1, u32::MAX]);
+        counts.map(move |count| {
+            let mut bytes: Vec<u8> = (0..length as u8).collect();
+            let behind = bytes.iter_mut().skip(COUNT_TWO_AT);
+            behind
+                .zip(count.to_be_bytes())
+                .for_each(|(to, byte)| *to = byte);
+            Sheet(bytes)
+        })
+    })
 }
 
 /// A sound sheet of a hall with as many packets as there is room for, and so many in a hundred codes not up.

@@ -26,6 +26,8 @@ pub struct LineRooms {
     pub end: Room<u8>,
     /// The end that was returned.
     pub told: usize,
+    /// The peer's line before it is told; empty behind that.
+    line: Vec<u8>,
 }
 
 /// Text that lines are added to.
@@ -36,6 +38,12 @@ pub struct Text {
 }
 
 impl Spot {
+    /// The start of room for one line.
+    pub const START: Spot = Spot {
+        at: 0,
+        length: LINE_ROOM,
+    };
+
     /// Any place, with exactly the room for a line behind it, a byte less, or more or less by any number; or a place behind the room.
     pub fn any(random: &mut Random) -> Spot {
         let at = match random.below(4) {
@@ -87,6 +95,7 @@ impl Spot {
             number: Room::filled(random, self.length),
             end: Room::filled(random, self.length),
             told: random.word() as usize,
+            line: Vec::new(),
         }
     }
 }
@@ -98,6 +107,7 @@ impl LineRooms {
             number: Room::new(LINE_ROOM),
             end: Room::new(LINE_ROOM),
             told: 0,
+            line: Vec::new(),
         }
     }
 
@@ -105,16 +115,33 @@ impl LineRooms {
     pub fn tell(&mut self, refusal: u32, line: &[u8], at: usize) -> u32 {
         let number = put(refusal, line, at, self.number.lent());
         let again = put(refusal, line, at, self.end.lent());
-        self.told = if again == refusal::NONE {
-            at + line.len()
-        } else {
-            0
-        };
+        self.told = end_of(again, line, at);
+        number
+    }
+
+    /// The same for a line that a function adds to a text, and that is never refused but for the room: each of the two calls works it
+    /// out by itself.
+    pub fn tell_added(&mut self, at: usize, add: impl Fn(&mut Vec<u8>)) -> u32 {
+        add(&mut self.line);
+        let number = put(refusal::NONE, &self.line, at, self.number.lent());
+        self.line.clear();
+        add(&mut self.line);
+        let again = put(refusal::NONE, &self.line, at, self.end.lent());
+        self.told = end_of(again, &self.line, at);
+        self.line.clear();
         number
     }
 }
 
-/// Writes a line at a place where there is no refusal and room for any line; returns the refusal.
+/// The place behind a line that was written at a place; 0 where it is refused.
+fn end_of(refusal: u32, line: &[u8], at: usize) -> usize {
+    match refusal {
+        refusal::NONE => at + line.len(),
+        _ => 0,
+    }
+}
+
+/// Writes a line, as far as the room goes, at a place where there is no refusal and room for any line; returns the refusal.
 fn put(refusal: u32, line: &[u8], at: usize, room: &mut [u8]) -> u32 {
     if refusal != refusal::NONE {
         return refusal;
@@ -123,7 +150,8 @@ fn put(refusal: u32, line: &[u8], at: usize, room: &mut [u8]) -> u32 {
     if behind.len() < LINE_ROOM {
         return refusal::ROOM;
     }
-    behind[..line.len()].copy_from_slice(line);
+    let written = line.len().min(behind.len());
+    behind[..written].copy_from_slice(&line[..written]);
     refusal::NONE
 }
 
@@ -186,6 +214,25 @@ mod tests {
         assert_eq!(put(0, b"END", 2, &mut room), refusal::ROOM);
         assert_eq!(put(0, b"END", usize::MAX, &mut room), refusal::ROOM);
         assert!(room.iter().all(|&byte| byte == 9));
+    }
+
+    #[test]
+    fn a_line_longer_than_any_is_written_as_far_as_the_room_goes() {
+        let mut room = vec![9; LINE_ROOM];
+        assert_eq!(put(0, &[7; LINE_ROOM + 1], 0, &mut room), 0);
+        assert!(room.iter().all(|&byte| byte == 7));
+    }
+
+    #[test]
+    fn a_line_that_is_added_is_told_as_one_that_is_given() {
+        let mut random = Random::new(2);
+        for spot in Spot::edges() {
+            let mut given = spot.rooms(&mut random);
+            let mut added = given.clone();
+            let number = given.tell(refusal::NONE, b"END 7\n", spot.at);
+            let again = added.tell_added(spot.at, |text| text.extend_from_slice(b"END 7\n"));
+            assert_eq!((number, given), (again, added));
+        }
     }
 
     #[test]

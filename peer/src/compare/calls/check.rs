@@ -69,15 +69,7 @@ impl Checked {
     pub fn any(random: &mut Random) -> Checked {
         let hall = light_hall(random);
         let count = any_length(random, hall_codes(hall));
-        let mut codes = known_codes(random, count);
-        if random.once_in(8) {
-            codes.fill_with(|| random.byte());
-        } else if count > 0 {
-            for _ in 0..random.below(UNKNOWN) {
-                codes[random.below(count as u32) as usize] = unknown_code(random);
-            }
-        }
-        let table = Table::Own(codes);
+        let table = Table::Own(any_tried_codes(random, count));
         Checked { hall, table }
     }
 
@@ -98,6 +90,19 @@ impl Checked {
         let tried = places.map(|at| all_up_but(TRIED, hall_codes(TRIED), Some(at)));
         tables.chain(tried)
     }
+}
+
+/// So many codes: known ones, a few unknown ones among them, or any bytes.
+pub fn any_tried_codes(random: &mut Random, count: usize) -> Vec<u8> {
+    let mut codes = known_codes(random, count);
+    if random.once_in(8) {
+        codes.fill_with(|| random.byte());
+    } else if count > 0 {
+        for _ in 0..random.below(UNKNOWN) {
+            codes[random.below(count as u32) as usize] = unknown_code(random);
+        }
+    }
+    codes
 }
 
 /// The tables to try with a hall: right and wrong lengths, each with an unknown code in the first place, the last, or none.

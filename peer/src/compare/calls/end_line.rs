@@ -7,6 +7,9 @@ use crate::compare::call::Call;
 use crate::compare::texts::{LineRooms, Spot};
 use crate::rattle;
 
+/// The random lines of a short comparison of each call that writes one from plain numbers.
+pub const LINES: u32 = 40_000;
+
 /// The calls `calls_end_line` and `calls_end_line_end`.
 pub struct EndLine;
 
@@ -23,7 +26,7 @@ impl Call for EndLine {
 
     const NAME: &'static str = "end line";
     const NUMBERS: &'static [u32] = &[NONE, ROOM];
-    const INPUTS: u32 = 40_000;
+    const INPUTS: u32 = LINES;
 
     fn any(random: &mut Random) -> Input {
         Input {

@@ -3,28 +3,45 @@
 //! To add a call: declare it in `rattle.rs`, with a pointer and a length for each slice, and wrap it there; write its module here,
 //! an `impl Call` like the others; add its line to `CALLS`.
 
+mod b_fits;
 mod broadcast;
 mod cell;
 mod check;
 mod check_place;
+mod codes_part;
 mod distances;
 mod distances_origin;
 mod driver_route;
 mod end_line;
+mod far_end;
+mod first_link;
+mod first_unknown;
+mod hall_line;
+mod is_known;
+mod is_up;
+mod is_valid;
 mod journey;
 mod journey_counts;
 mod journey_line;
+mod k_fits;
 mod link;
+mod n_fits;
+mod near_end;
 mod neighbour;
+mod neighbour_over;
 mod next_hop;
 mod next_identification;
 mod opening_line;
+mod packet_fields;
+mod packet_line;
 mod part;
 mod payload;
 mod program;
 mod read_header;
+mod refused_line;
 mod route;
 mod route_links;
+mod servers;
 mod sheet;
 mod sheet_codes;
 mod sheet_packet;
@@ -36,6 +53,7 @@ mod trace;
 mod tuple;
 mod uid;
 mod write_header;
+mod written_part;
 
 use super::bench;
 use super::call::Call;
@@ -58,12 +76,24 @@ pub const CALLS: &[Listed] = &[
     listed::<cell::Cell>(),
     listed::<neighbour::Neighbour>(),
     listed::<link::Link>(),
+    listed::<n_fits::NFits>(),
+    listed::<k_fits::KFits>(),
+    listed::<b_fits::BFits>(),
+    listed::<is_valid::IsValid>(),
+    listed::<servers::Servers>(),
+    listed::<neighbour_over::NeighbourOver>(),
+    listed::<near_end::NearEnd>(),
+    listed::<far_end::FarEnd>(),
     listed::<route::Route>(),
     listed::<route_links::RouteLinks>(),
     listed::<driver_route::DriverRoute>(),
+    listed::<first_link::FirstLink>(),
     listed::<check::Check>(),
     listed::<check_place::CheckPlace>(),
     listed::<part::Part>(),
+    listed::<is_up::IsUp>(),
+    listed::<is_known::IsKnown>(),
+    listed::<first_unknown::FirstUnknown>(),
     listed::<distances::Distances>(),
     listed::<distances_origin::DistancesOrigin>(),
     listed::<next_hop::NextHop>(),
@@ -78,11 +108,17 @@ pub const CALLS: &[Listed] = &[
     listed::<sheet::Sheet>(),
     listed::<sheet_place::SheetPlace>(),
     listed::<sheet_codes::SheetCodes>(),
+    listed::<codes_part::CodesPart>(),
     listed::<sheet_packet::SheetPacket>(),
     listed::<sheet_packet_place::SheetPacketPlace>(),
+    listed::<packet_fields::PacketFields>(),
     listed::<opening_line::OpeningLine>(),
     listed::<journey_line::JourneyLine>(),
     listed::<end_line::EndLine>(),
+    listed::<hall_line::HallLine>(),
+    listed::<refused_line::RefusedLine>(),
+    listed::<packet_line::PacketLine>(),
+    listed::<written_part::WrittenPart>(),
     listed::<trace::Trace<0>>(),
     listed::<trace::Trace<1>>(),
     listed::<trace::Trace<2>>(),

@@ -11,7 +11,7 @@ use crate::compare::sheets::{any_sheet, edge_sheets, Sheet};
 use crate::rattle;
 
 /// The most codes of a hall whose sheet can be sound: n = 8, k = 2.
-const MOST_CODES: usize = 15_768;
+pub const MOST_CODES: usize = 15_768;
 
 /// The call `calls_sheet_codes`.
 pub struct SheetCodes;

@@ -1,9 +1,9 @@
--- `sheetcalls::calls_end_line` meets its contract: it writes what the call writes.
+-- `linecalls::calls_end_line` meets its contract: it writes what the call writes.
 use mathlib.Core.Path.{ap}
 use borrow.Author.Needs.{needs}
 use Rattle.report.specs.declared.Written.{Written}
-use Rattle.sheetcalls.proofs.calls_end_line.Statement.{statement}
-use Rattle.sheetcalls.proofs.calls_end_line.Tie as tie
+use Rattle.linecalls.proofs.calls_end_line.Statement.{statement}
+use Rattle.linecalls.proofs.calls_end_line.Tie as tie
 
 end-line-requires : tie.Need-end-line-requires
 end-line-requires c κs = search needs

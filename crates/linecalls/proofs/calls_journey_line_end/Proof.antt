@@ -1,9 +1,9 @@
--- `sheetcalls::calls_journey_line_end` meets its contract: it writes what the call writes.
+-- `linecalls::calls_journey_line_end` meets its contract: it writes what the call writes.
 use mathlib.Core.Path.{ap}
 use borrow.Author.Needs.{needs}
 use Rattle.report.specs.declared.Written.{Written}
-use Rattle.sheetcalls.proofs.calls_journey_line_end.Statement.{statement}
-use Rattle.sheetcalls.proofs.calls_journey_line_end.Tie as tie
+use Rattle.linecalls.proofs.calls_journey_line_end.Statement.{statement}
+use Rattle.linecalls.proofs.calls_journey_line_end.Tie as tie
 
 read-sheet-requires : tie.Need-read-sheet-requires
 read-sheet-requires c κs = search needs

@@ -1,0 +1,2 @@
+-- What a packet's line tells, by plain numbers.
+pub mod Outcomes

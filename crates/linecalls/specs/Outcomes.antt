@@ -1,0 +1,7 @@
+-- What became of a packet, as the five numbers that its line tells before the uids.
+use Prim.Native.Nat.{ℕ}
+use Rattle.report.specs.declared.PacketReport.{PacketReport}
+
+-- source, dst, ending, links and reroutes
+abbrev pub reportOf : ℕ → ℕ → ℕ → ℕ → ℕ → PacketReport
+reportOf source dst ending links reroutes = record { source = source; dst = dst; ending = ending; links = links; reroutes = reroutes }

@@ -1,0 +1,159 @@
+// The calls about the lines of a trace for a caller outside of Rattle, on plain numbers and slices.
+ghost use mathlib.Core.Path.{_≡_};
+ghost use lib.ListN.{take};
+ghost use Rattle.hall.specs.Rooms.{told, written};
+ghost use Rattle.sheet.specs.Answers.{sheetOf};
+ghost use Rattle.report.specs.Texts.{hallLine, refusedLine, endLine, packetLine};
+ghost use Rattle.report.specs.Rooms.{writtenOf, roomOf};
+ghost use Rattle.lines.specs.Traces.{openingText, journeyText, journeyRefusal, unlessWritten, unlessRoom};
+ghost use Rattle.rooms.specs.Numbers.{hallOf};
+ghost use Rattle.linecalls.specs.Outcomes.{reportOf};
+use hall::Hall;
+use report::PacketReport;
+use rooms::tell_bytes;
+
+#[no_mangle]
+pub extern "C" fn calls_opening_line(sheet: &[u8], at: usize, room: &mut [u8]) -> u32
+    ensures number { λ r. ⌜ r ≡ writtenOf (now (room .entry)) at (openingText (sheetOf (now (sheet .entry)))) .refusal ⌝ }
+    ensures room { λ _. ⌜ now (room .exit) ≡ roomOf (now (room .entry)) at (openingText (sheetOf (now (sheet .entry)))) ⌝ }
+{
+    let read = sheet::read_sheet(sheet);
+    lines::opening_line(room, at, read).refusal
+}
+
+#[no_mangle]
+pub extern "C" fn calls_opening_line_end(sheet: &[u8], at: usize, room: &mut [u8]) -> usize
+    ensures end { λ r. ⌜ r ≡ writtenOf (now (room .entry)) at (openingText (sheetOf (now (sheet .entry)))) .end ⌝ }
+    ensures room { λ _. ⌜ now (room .exit) ≡ roomOf (now (room .entry)) at (openingText (sheetOf (now (sheet .entry)))) ⌝ }
+{
+    let read = sheet::read_sheet(sheet);
+    lines::opening_line(room, at, read).end
+}
+
+#[no_mangle]
+pub extern "C" fn calls_journey_line(sheet: &[u8], i: u32, at: usize, room: &mut [u8]) -> u32
+    ensures number { λ r. ⌜ r ≡ unlessWritten (journeyRefusal (now (sheet .entry)) (sheetOf (now (sheet .entry))) i) (now (room .entry)) at (journeyText (now (sheet .entry)) (sheetOf (now (sheet .entry))) i) .refusal ⌝ }
+    ensures room { λ _. ⌜ now (room .exit) ≡ unlessRoom (journeyRefusal (now (sheet .entry)) (sheetOf (now (sheet .entry))) i) (now (room .entry)) at (journeyText (now (sheet .entry)) (sheetOf (now (sheet .entry))) i) ⌝ }
+{
+    let read = sheet::read_sheet(sheet);
+    lines::journey_line(room, at, sheet, read, i).refusal
+}
+
+#[no_mangle]
+pub extern "C" fn calls_journey_line_end(sheet: &[u8], i: u32, at: usize, room: &mut [u8]) -> usize
+    ensures end { λ r. ⌜ r ≡ unlessWritten (journeyRefusal (now (sheet .entry)) (sheetOf (now (sheet .entry))) i) (now (room .entry)) at (journeyText (now (sheet .entry)) (sheetOf (now (sheet .entry))) i) .end ⌝ }
+    ensures room { λ _. ⌜ now (room .exit) ≡ unlessRoom (journeyRefusal (now (sheet .entry)) (sheetOf (now (sheet .entry))) i) (now (room .entry)) at (journeyText (now (sheet .entry)) (sheetOf (now (sheet .entry))) i) ⌝ }
+{
+    let read = sheet::read_sheet(sheet);
+    lines::journey_line(room, at, sheet, read, i).end
+}
+
+#[no_mangle]
+pub extern "C" fn calls_end_line(packets: u32, at: usize, room: &mut [u8]) -> u32
+    ensures number { λ r. ⌜ r ≡ writtenOf (now (room .entry)) at (endLine packets) .refusal ⌝ }
+    ensures room { λ _. ⌜ now (room .exit) ≡ roomOf (now (room .entry)) at (endLine packets) ⌝ }
+{
+    report::end_line(room, at, packets).refusal
+}
+
+#[no_mangle]
+pub extern "C" fn calls_end_line_end(packets: u32, at: usize, room: &mut [u8]) -> usize
+    ensures end { λ r. ⌜ r ≡ writtenOf (now (room .entry)) at (endLine packets) .end ⌝ }
+    ensures room { λ _. ⌜ now (room .exit) ≡ roomOf (now (room .entry)) at (endLine packets) ⌝ }
+{
+    report::end_line(room, at, packets).end
+}
+
+#[no_mangle]
+pub extern "C" fn calls_hall_line(n: u32, k: u32, b: u32, at: usize, room: &mut [u8]) -> u32
+    ensures number { λ r. ⌜ r ≡ writtenOf (now (room .entry)) at (hallLine (hallOf n k b)) .refusal ⌝ }
+    ensures room { λ _. ⌜ now (room .exit) ≡ roomOf (now (room .entry)) at (hallLine (hallOf n k b)) ⌝ }
+{
+    report::hall_line(room, at, Hall { n, k, b }).refusal
+}
+
+#[no_mangle]
+pub extern "C" fn calls_hall_line_end(n: u32, k: u32, b: u32, at: usize, room: &mut [u8]) -> usize
+    ensures end { λ r. ⌜ r ≡ writtenOf (now (room .entry)) at (hallLine (hallOf n k b)) .end ⌝ }
+    ensures room { λ _. ⌜ now (room .exit) ≡ roomOf (now (room .entry)) at (hallLine (hallOf n k b)) ⌝ }
+{
+    report::hall_line(room, at, Hall { n, k, b }).end
+}
+
+#[no_mangle]
+pub extern "C" fn calls_refused_line(number: u32, place: u32, at: usize, room: &mut [u8]) -> u32
+    ensures number { λ r. ⌜ r ≡ writtenOf (now (room .entry)) at (refusedLine number place) .refusal ⌝ }
+    ensures room { λ _. ⌜ now (room .exit) ≡ roomOf (now (room .entry)) at (refusedLine number place) ⌝ }
+{
+    report::refused_line(room, at, number, place).refusal
+}
+
+#[no_mangle]
+pub extern "C" fn calls_refused_line_end(
+    number: u32,
+    place: u32,
+    at: usize,
+    room: &mut [u8],
+) -> usize
+    ensures end { λ r. ⌜ r ≡ writtenOf (now (room .entry)) at (refusedLine number place) .end ⌝ }
+    ensures room { λ _. ⌜ now (room .exit) ≡ roomOf (now (room .entry)) at (refusedLine number place) ⌝ }
+{
+    report::refused_line(room, at, number, place).end
+}
+
+#[no_mangle]
+pub extern "C" fn calls_packet_line(
+    source: u32,
+    dst: u32,
+    ending: u32,
+    links: u32,
+    reroutes: u32,
+    uids: &[u32],
+    at: usize,
+    room: &mut [u8],
+) -> u32
+    ensures number { λ r. ⌜ r ≡ writtenOf (now (room .entry)) at (packetLine (reportOf source dst ending links reroutes) (now (uids .entry))) .refusal ⌝ }
+    ensures room { λ _. ⌜ now (room .exit) ≡ roomOf (now (room .entry)) at (packetLine (reportOf source dst ending links reroutes) (now (uids .entry))) ⌝ }
+{
+    let told = PacketReport {
+        source,
+        dst,
+        ending,
+        links,
+        reroutes,
+    };
+    report::packet_line(room, at, told, uids).refusal
+}
+
+#[no_mangle]
+pub extern "C" fn calls_packet_line_end(
+    source: u32,
+    dst: u32,
+    ending: u32,
+    links: u32,
+    reroutes: u32,
+    uids: &[u32],
+    at: usize,
+    room: &mut [u8],
+) -> usize
+    ensures end { λ r. ⌜ r ≡ writtenOf (now (room .entry)) at (packetLine (reportOf source dst ending links reroutes) (now (uids .entry))) .end ⌝ }
+    ensures room { λ _. ⌜ now (room .exit) ≡ roomOf (now (room .entry)) at (packetLine (reportOf source dst ending links reroutes) (now (uids .entry))) ⌝ }
+{
+    let told = PacketReport {
+        source,
+        dst,
+        ending,
+        links,
+        reroutes,
+    };
+    report::packet_line(room, at, told, uids).end
+}
+
+#[no_mangle]
+pub extern "C" fn calls_written_part(text: &[u8], end: usize, room: &mut [u8]) -> u32
+    ensures number { λ r. ⌜ r ≡ told (0, take end (now (text .entry))) (now (room .entry)) ⌝ }
+    ensures room { λ _. ⌜ now (room .exit) ≡ written (0, take end (now (text .entry))) (now (room .entry)) ⌝ }
+{
+    let part = lines::written_part(text, end);
+    tell_bytes(0, part, room)
+}

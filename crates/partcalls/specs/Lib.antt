@@ -1,0 +1,2 @@
+-- How a link is told by plain numbers.
+pub mod Outcomes

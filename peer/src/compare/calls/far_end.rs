@@ -1,0 +1,53 @@
+//! The link between the sub-cells of two servers: its end on the side of the second.
+
+use peer::hall;
+use peer::random::Random;
+use peer::refusal::NONE;
+
+use crate::compare::call::Call;
+use crate::compare::cases::{by_size, Case};
+use crate::compare::numbers::Over;
+use crate::compare::room::{told, Room};
+use crate::rattle;
+
+/// The call `calls_far_end_over`, which returns the end.
+pub struct FarEnd;
+
+impl Call for FarEnd {
+    type Input = Over;
+    type Rooms = Room<u64>;
+
+    const NAME: &'static str = "far end";
+    const NUMBERS: &'static [u32] = &[NONE];
+    const INPUTS: u32 = 1_000_000;
+
+    fn any(random: &mut Random) -> Over {
+        Over::any(random)
+    }
+
+    fn edges() -> impl Iterator<Item = Over> {
+        Over::edges()
+    }
+
+    fn rooms(_: &Over, _: &mut Random) -> Room<u64> {
+        Room::new(1)
+    }
+
+    fn cases() -> Vec<Case<Over>> {
+        by_size(Over::sound)
+    }
+
+    fn ample_rooms() -> Room<u64> {
+        Room::new(1)
+    }
+
+    fn rattle(at: &Over, room: &mut Room<u64>) -> u32 {
+        let far = rattle::far_end_over(at.size, at.x, at.y);
+        told(NONE, &[far], room.lent())
+    }
+
+    fn peer(at: &Over, room: &mut Room<u64>) -> u32 {
+        let (_, far) = hall::ends_over(at.size, at.x, at.y);
+        told(NONE, &[far], room.lent())
+    }
+}

@@ -1,0 +1,71 @@
+//! The first link above the local level of the route between two servers.
+
+use peer::hall::MOST_B;
+use peer::random::Random;
+use peer::refusal::NONE;
+use peer::route::first_link;
+
+use crate::compare::call::Call;
+use crate::compare::cases::{by_b, Case};
+use crate::compare::pairs::Pair;
+use crate::compare::room::{told, Room};
+use crate::rattle;
+
+/// The values of the answer: the level, which is 0 where there is no such link, and the two ends.
+const VALUES: usize = 3;
+
+/// The call `calls_first_link`, which returns the level.
+pub struct FirstLink;
+
+impl Call for FirstLink {
+    type Input = Pair;
+    type Rooms = Room<u32>;
+
+    const NAME: &'static str = "first link";
+    const NUMBERS: &'static [u32] = &[NONE];
+    const INPUTS: u32 = 500_000;
+
+    fn any(random: &mut Random) -> Pair {
+        Pair::any(random)
+    }
+
+    fn edges() -> impl Iterator<Item = Pair> {
+        Pair::edges().flat_map(with_each_b)
+    }
+
+    fn long_edges() -> impl Iterator<Item = Pair> {
+        Pair::long_edges().flat_map(with_each_b)
+    }
+
+    fn rooms(_: &Pair, random: &mut Random) -> Room<u32> {
+        Room::filled(random, VALUES)
+    }
+
+    fn cases() -> Vec<Case<Pair>> {
+        by_b(Pair::sound)
+    }
+
+    fn ample_rooms() -> Room<u32> {
+        Room::new(VALUES)
+    }
+
+    fn rattle(at: &Pair, room: &mut Room<u32>) -> u32 {
+        if let [level, near, far] = room.lent() {
+            *level = rattle::first_link(at.hall, at.x, at.y, near, far);
+        }
+        NONE
+    }
+
+    fn peer(at: &Pair, room: &mut Room<u32>) -> u32 {
+        let link = first_link(at.hall, at.x, at.y);
+        let (near, far, level) = link.unwrap_or_default();
+        told(NONE, &[level, near, far], room.lent())
+    }
+}
+
+/// The pair as it is, and with the other local level that its hall may have.
+fn with_each_b(at: Pair) -> impl Iterator<Item = Pair> {
+    let mut other = at;
+    other.hall.b = MOST_B - at.hall.b.min(MOST_B);
+    [at, other].into_iter()
+}
