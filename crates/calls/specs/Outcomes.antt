@@ -3,11 +3,11 @@ use mathlib.Core.List.{List, [], _∷_}
 use Prim.Native.Nat.{ℕ}
 use Rattle.hall.specs.declared.Hall.{Hall}
 use Rattle.hall.specs.declared.Sizes.{Sizes}
-use Rattle.hall.specs.declared.Uid.{Uid}
-use Rattle.hall.specs.declared.Tuple.{Tuple}
-use Rattle.hall.specs.declared.Cell.{Cell}
-use Rattle.hall.specs.declared.Neighbour.{Neighbour}
-use Rattle.hall.specs.declared.Link.{Link}
+use Rattle.cells.specs.declared.Uid.{Uid}
+use Rattle.cells.specs.declared.Tuple.{Tuple}
+use Rattle.cells.specs.declared.Cell.{Cell}
+use Rattle.cells.specs.declared.Neighbour.{Neighbour}
+use Rattle.cells.specs.declared.Link.{Link}
 use Rattle.route.specs.declared.Route.{Route}
 use Rattle.ports.specs.Answers.{partRefusal, partOf}
 use Rattle.hall.specs.Rooms.{Outcome}

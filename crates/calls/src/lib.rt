@@ -1,7 +1,8 @@
 // The calls about a hall, its routes and its tables for a caller outside of Rattle, on plain numbers and slices.
 ghost use mathlib.Core.Path.{_≡_};
 ghost use mathlib.Core.List.{[], _∷_};
-ghost use Rattle.hall.specs.Answers.{sizesOf, uidOf, tupleOf, cellAround, neighbourOf, linkBetween};
+ghost use Rattle.hall.specs.Answers.{sizesOf};
+ghost use Rattle.cells.specs.Answers.{uidOf, tupleOf, cellAround, neighbourOf, linkBetween};
 ghost use Rattle.route.specs.Answers.{routeBetween};
 ghost use Rattle.ports.specs.Answers.{checkOf};
 ghost use Rattle.hall.specs.Rooms.{told, written};
@@ -35,7 +36,7 @@ pub extern "C" fn calls_uid(
     ensures number { λ r. ⌜ r ≡ told (ofUid (uidOf (hallOf n k b) (a0 ∷ a1 ∷ a2 ∷ a3 ∷ []))) (now (room .entry)) ⌝ }
     ensures room { λ _. ⌜ now (room .exit) ≡ written (ofUid (uidOf (hallOf n k b) (a0 ∷ a1 ∷ a2 ∷ a3 ∷ []))) (now (room .entry)) ⌝ }
 {
-    let a = hall::uid_of(Hall { n, k, b }, [a0, a1, a2, a3]);
+    let a = cells::uid_of(Hall { n, k, b }, [a0, a1, a2, a3]);
     let words = [a.uid];
     tell(a.refusal, &words, room)
 }
@@ -45,7 +46,7 @@ pub extern "C" fn calls_tuple(n: u32, k: u32, b: u32, uid: u32, room: &mut [u32]
     ensures number { λ r. ⌜ r ≡ told (ofTuple (tupleOf (hallOf n k b) uid)) (now (room .entry)) ⌝ }
     ensures room { λ _. ⌜ now (room .exit) ≡ written (ofTuple (tupleOf (hallOf n k b) uid)) (now (room .entry)) ⌝ }
 {
-    let a = hall::tuple_of(Hall { n, k, b }, uid);
+    let a = cells::tuple_of(Hall { n, k, b }, uid);
     let words = a.entries;
     tell(a.refusal, &words, room)
 }
@@ -55,7 +56,7 @@ pub extern "C" fn calls_cell(n: u32, k: u32, b: u32, uid: u32, level: u32, room:
     ensures number { λ r. ⌜ r ≡ told (ofCell (cellAround (hallOf n k b) uid level)) (now (room .entry)) ⌝ }
     ensures room { λ _. ⌜ now (room .exit) ≡ written (ofCell (cellAround (hallOf n k b) uid level)) (now (room .entry)) ⌝ }
 {
-    let a = hall::cell_around(Hall { n, k, b }, uid, level);
+    let a = cells::cell_around(Hall { n, k, b }, uid, level);
     let words = [a.first, a.count];
     tell(a.refusal, &words, room)
 }
@@ -72,7 +73,7 @@ pub extern "C" fn calls_neighbour(
     ensures number { λ r. ⌜ r ≡ told (ofNeighbour (neighbourOf (hallOf n k b) uid level)) (now (room .entry)) ⌝ }
     ensures room { λ _. ⌜ now (room .exit) ≡ written (ofNeighbour (neighbourOf (hallOf n k b) uid level)) (now (room .entry)) ⌝ }
 {
-    let a = hall::neighbour_of(Hall { n, k, b }, uid, level);
+    let a = cells::neighbour_of(Hall { n, k, b }, uid, level);
     let words = [a.uid];
     tell(a.refusal, &words, room)
 }
@@ -91,7 +92,7 @@ pub extern "C" fn calls_link(
     ensures number { λ r. ⌜ r ≡ told (ofLink (linkBetween (hallOf n k b) uid level p q)) (now (room .entry)) ⌝ }
     ensures room { λ _. ⌜ now (room .exit) ≡ written (ofLink (linkBetween (hallOf n k b) uid level p q)) (now (room .entry)) ⌝ }
 {
-    let a = hall::link_between(Hall { n, k, b }, uid, level, p, q);
+    let a = cells::link_between(Hall { n, k, b }, uid, level, p, q);
     let words = [a.from, a.to];
     tell(a.refusal, &words, room)
 }

@@ -11,12 +11,12 @@ use borrow.Author.Tests.{eqb-false, eq-eqb, ne-eqb, lt-ltb, le-leb, not-true}
 use Rattle.combine.specs.Tests.{pick, both}
 use Rattle.combine.proofs.Tests.{cases, never, both-left, both-right}
 use Rattle.hall.specs.declared.Hall.{Hall}
-use Rattle.hall.specs.declared.Neighbour.{Neighbour}
 use Rattle.hall.specs.Refusals.{refusal}
 use Rattle.hall.specs.Cells.{cell, same, neighbour}
 use Rattle.hall.specs.Halls.{servers, largest}
-use Rattle.hall.specs.Answers.{neighbourOf}
 use Rattle.hall.proofs.Growth.{Valid, valid-known, uid-fits}
+use Rattle.cells.specs.declared.Neighbour.{Neighbour}
+use Rattle.cells.specs.Answers.{neighbourOf}
 use Rattle.route.specs.declared.Crossing.{Crossing}
 use Rattle.route.specs.declared.Crossing.the-variants.{Link, Nothing}
 use Rattle.route.specs.Answers.{firstLink}

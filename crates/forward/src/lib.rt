@@ -323,7 +323,7 @@ fn proxy_of(h: Hall, me: u32, place: u32, level: u32) -> u32
     ensures { λ r. ⌜ r ≡ neighbour (h .n) (level - 1) (firstOf h me + place) ⌝ }
 {
     let first = me - me % cell_size(h);
-    hall::neighbour_of(h, first + place, level).uid
+    cells::neighbour_of(h, first + place, level).uid
 }
 
 // The step from 4 on, of a packet that came as `came`.

@@ -1,19 +1,26 @@
--- Laws of sizes: t is positive and grows with n and with the level, so the largest hall bounds every other; and what a valid hall is.
+-- Laws of sizes: t is positive and grows with n and with the level, so the largest hall bounds every other; what a valid hall is, and the sizes
+-- that a call works out once.
 use mathlib.Core.Path.{_≡_, refl, sym, _∙_, ap}
 use mathlib.Core.Bool.{Bool, true, false}
+use mathlib.Core.List.{List}
 use Prim.Native.Nat.{ℕ, zero, suc, min, _+_, _-_, _*_, _<_, _≤_}
 use native.Mathlib.Nat.{le-trans, mul-le-mul}
 use native.Mathlib.Numerals.{add-one}
 use native.Mathlib.Omega.{arith}
 use lib.Dec.{leb}
+use lib.ListN.{getD, replicate}
 use lib.Arith.{le-zero}
 use borrow.Author.Tests.{leb-true, leb-false, le-leb, lt-leb}
 use Rattle.combine.specs.Tests.{both}
+use Rattle.combine.specs.Lists.{upTo}
 use Rattle.combine.proofs.Tests.{cases, both-left, both-right}
+use Rattle.combine.proofs.Lists.{getD-upTo}
 use Rattle.hall.specs.declared.Hall.{Hall}
+use Rattle.hall.specs.declared.Sizes.{Sizes}
+use Rattle.hall.specs.Refusals.{refusal}
 use Rattle.hall.specs.Cells.{t, g}
-use Rattle.hall.specs.Halls.{nFits, kFits, bFits, valid, servers, largest}
-use Rattle.hall.specs.Answers.{sizeAt}
+use Rattle.hall.specs.Halls.{places, nFits, kFits, bFits, valid, servers, largest}
+use Rattle.hall.specs.Answers.{sizeAt, sizesOf}
 use Rattle.hall.proofs.Cells.{t-pos}
 
 pub t-more : (n m i : ℕ) → n ≤ m → t n i ≤ t m i
@@ -97,3 +104,34 @@ size-at n k i h = rw (le-leb i k h)
 pub size-above : (n k i : ℕ) → k < i → sizeAt n k i ≡ 0
 unfolding sizeAt
 size-above n k i h = rw (lt-leb i k h)
+
+-- a size up to level k, read off the sizes
+pub size-read : (n k i : ℕ) (sizes : List ℕ) → k ≤ 3 → i ≤ k → sizes ≡ upTo (sizeAt n k) places → getD sizes i 0 ≡ t n i
+size-read n k i sizes h l e =
+    ap (λ (r : List ℕ). getD r i 0) e ∙ getD-upTo (sizeAt n k) places i 0 (omega arith) ∙ size-at n k i l
+
+-- the sizes of a hall, by whether there is such a hall
+module _ (h : Hall) (s : Sizes) (e : s ≡ sizesOf h) where
+  sizes-valid : valid h ≡ true → s ≡ record { refusal = 0; t = upTo (sizeAt (h .n) (h .k)) places }
+  unfolding refusal
+  sizes-valid v = e ∙ rw v
+
+  sizes-invalid : valid h ≡ false → s ≡ record { refusal = 1; t = replicate places 0 }
+  unfolding refusal
+  sizes-invalid v = e ∙ rw v
+
+  pub sizes-refused : (s .refusal ≡ 0 → ⊥) → (valid h ≡ false) × (s .refusal ≡ 1)
+  sizes-refused d = cases (valid h)
+      (λ v. absurd (d (ap (λ (z : Sizes). z .refusal) (sizes-valid v))))
+      (λ v. (v, ap (λ (z : Sizes). z .refusal) (sizes-invalid v)))
+
+  pub sizes-given : s .refusal ≡ 0 → valid h ≡ true
+  sizes-given q = cases (valid h)
+      (λ v. v)
+      (λ v. let o : s .refusal ≡ 1 = ap (λ (z : Sizes). z .refusal) (sizes-invalid v) in absurd (omega arith))
+
+  pub sizes-listed : valid h ≡ true → s .t ≡ upTo (sizeAt (h .n) (h .k)) places
+  sizes-listed v = ap (λ (z : Sizes). z .t) (sizes-valid v)
+
+  pub sizes-at : valid h ≡ true → (i : ℕ) → i ≤ h .k → getD (s .t) i 0 ≡ t (h .n) i
+  sizes-at v i l = size-read (h .n) (h .k) i (s .t) (valid-known h v .k-high) l (sizes-listed v)

@@ -5,5 +5,4 @@ pub mod Links
 pub mod Tuples
 pub mod Growth
 pub mod Wide
-pub mod Asks
 pub mod Told

@@ -1,24 +1,17 @@
--- What each public call about a hall's numbers answers.
+-- What the calls about a hall's sizes and the ends of a link answer.
 -- Sections "The hall and its numbers" and "Refusal numbers".
-use mathlib.Core.Bool.{Bool, true, false, not}
-use mathlib.Core.List.{List, [], _∷_}
-use Prim.Native.Nat.{ℕ, _+_, _-_, _*_}
-use lib.Dec.{eqb, leb, ltb}
+use mathlib.Core.List.{[], _∷_}
+use Prim.Native.Nat.{ℕ}
+use lib.Dec.{leb}
 use lib.ListN.{replicate}
-use Rattle.combine.specs.Tests.{pick, both}
+use Rattle.combine.specs.Tests.{pick}
 use Rattle.combine.specs.Lists.{upTo}
 use Rattle.hall.specs.declared.Hall.{Hall}
 use Rattle.hall.specs.declared.Sizes.{Sizes}
-use Rattle.hall.specs.declared.Uid.{Uid}
-use Rattle.hall.specs.declared.Tuple.{Tuple}
-use Rattle.hall.specs.declared.Cell.{Cell}
-use Rattle.hall.specs.declared.Neighbour.{Neighbour}
-use Rattle.hall.specs.declared.Link.{Link}
 use Rattle.hall.specs.declared.Ends.{Ends}
-use Rattle.hall.specs.Refusals.{Ask, refusal, answered, bad-range}
-use Rattle.hall.specs.Cells.{t, g, cell, subOver, endOver, end, neighbour}
-use Rattle.hall.specs.Halls.{places, asksHall, asksUid, asksLevel}
-use Rattle.hall.specs.Tuples.{uidUpTo, tupleFits, tuple}
+use Rattle.hall.specs.Refusals.{refusal, answered}
+use Rattle.hall.specs.Cells.{t, subOver, endOver}
+use Rattle.hall.specs.Halls.{places, asksHall}
 
 -- the ends of the link between the sub-cells of x and y, over sub-cells of T servers each
 abbrev pub endsOver : ℕ → ℕ → ℕ → Ends
@@ -33,45 +26,3 @@ sizesOf h =
     answered (refusal (asksHall h ∷ []))
     (record { refusal = 0; t = upTo (sizeAt (h .n) (h .k)) places })
     (λ number. record { refusal = number; t = replicate places 0 })
-
--- the uid of a tuple
-abbrev pub uidOf : Hall → List ℕ → Uid
-uidOf h a =
-    answered (refusal (asksHall h ∷ (bad-range, tupleFits (h .n) (h .k) a) ∷ []))
-    (record { refusal = 0; uid = uidUpTo (h .n) (h .k) a })
-    (λ number. record { refusal = number; uid = 0 })
-
--- the tuple of a uid
-abbrev pub tupleOf : Hall → ℕ → Tuple
-tupleOf h u =
-    answered (refusal (asksHall h ∷ asksUid h u ∷ []))
-    (record { refusal = 0; entries = tuple (h .n) (h .k) u })
-    (λ number. record { refusal = number; entries = replicate places 0 })
-
--- the DCell of level i around a server: its first uid, and its t(i) servers
-abbrev pub cellAround : Hall → ℕ → ℕ → Cell
-cellAround h u i =
-    answered (refusal (asksHall h ∷ asksUid h u ∷ asksLevel h 0 i ∷ []))
-    (record { refusal = 0; first = cell (h .n) i u * t (h .n) i; count = t (h .n) i })
-    (λ number. record { refusal = number; first = 0; count = 0 })
-
--- the neighbour of level i
-abbrev pub neighbourOf : Hall → ℕ → ℕ → Neighbour
-neighbourOf h u i =
-    answered (refusal (asksHall h ∷ asksUid h u ∷ asksLevel h 1 i ∷ []))
-    (record { refusal = 0; uid = neighbour (h .n) (i - 1) u })
-    (λ number. record { refusal = number; uid = 0 })
-
--- p and q are two sub-cells of a DCell of level i
-abbrev pub subcellsFit : Hall → ℕ → ℕ → ℕ → Bool
-subcellsFit h i p q = both (both (ltb p (g (h .n) i)) (ltb q (g (h .n) i))) (not (eqb p q))
-
-abbrev pub asksLink : Hall → ℕ → ℕ → ℕ → ℕ → List Ask
-asksLink h u i p q = asksHall h ∷ asksUid h u ∷ asksLevel h 1 i ∷ (bad-range, subcellsFit h i p q) ∷ []
-
--- the link between the sub-cells p and q of the DCell of level i around a server, the end in p first
-abbrev pub linkBetween : Hall → ℕ → ℕ → ℕ → ℕ → Link
-linkBetween h u i p q =
-    answered (refusal (asksLink h u i p q))
-    (record { refusal = 0; from = end (h .n) (i - 1) u p q; to = end (h .n) (i - 1) u q p })
-    (λ number. record { refusal = number; from = 0; to = 0 })

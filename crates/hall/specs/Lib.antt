@@ -1,4 +1,4 @@
--- What a hall is, and what each call about its numbers answers.
+-- What a hall is, how its servers are numbered, and what a call is refused by.
 pub mod Refusals
 pub mod Rooms
 pub mod Cells

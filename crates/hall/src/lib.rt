@@ -1,20 +1,14 @@
-// The numbers of a hall cabled as a DCell: sizes, uids and tuples, cells, neighbours, links.
+// The numbers of a hall cabled as a DCell: its sizes, and who is joined over sub-cells of a size.
 pub mod refusals;
 
-ghost use mathlib.Core.Bool.{true};
 ghost use mathlib.Core.Path.{_≡_};
-ghost use mathlib.Core.List.{[], _∷_};
 ghost use Prim.Native.Nat.{_+_, _*_, _≤_, _<_};
 ghost use Rattle.combine.specs.Tests.{pick};
 ghost use Rattle.combine.specs.Lists.{upTo};
-ghost use Rattle.hall.specs.Refusals.{refusal};
 ghost use Rattle.hall.specs.Cells.{t, port, firstOver, subOver, neighbourOver};
-ghost use Rattle.hall.specs.Halls.{nFits, kFits, bFits, valid, servers, asksHall, asksUid, asksLevel};
-ghost use Rattle.hall.specs.Tuples.{entryFits, tupleFits, uidUpTo, tuple};
-ghost use Rattle.hall.specs.Answers.{endsOver, sizeAt, sizesOf, uidOf, tupleOf, cellAround, neighbourOf, asksLink, linkBetween};
+ghost use Rattle.hall.specs.Halls.{nFits, kFits, bFits, valid, servers};
+ghost use Rattle.hall.specs.Answers.{endsOver, sizeAt, sizesOf};
 use crate::refusals::BAD_HALL;
-use crate::refusals::BAD_RANGE;
-use crate::refusals::BAD_UID;
 
 // A hall: n servers on a mini-switch, top level k, local level b.
 pub struct Hall {
@@ -27,38 +21,6 @@ pub struct Hall {
 pub struct Sizes {
     pub refusal: u32,
     pub t: [u32; 4],
-}
-
-// The uid of a tuple.
-pub struct Uid {
-    pub refusal: u32,
-    pub uid: u32,
-}
-
-// The tuple of a uid: place i holds a(i), zeros above k.
-pub struct Tuple {
-    pub refusal: u32,
-    pub entries: [u32; 4],
-}
-
-// The DCell around a server: its first uid, and its servers.
-pub struct Cell {
-    pub refusal: u32,
-    pub first: u32,
-    pub count: u32,
-}
-
-// The neighbour of a server at a level.
-pub struct Neighbour {
-    pub refusal: u32,
-    pub uid: u32,
-}
-
-// The link between two sub-cells, both ends as hall uids.
-pub struct Link {
-    pub refusal: u32,
-    pub from: u32,
-    pub to: u32,
 }
 
 // The ends of the link between the sub-cells of two servers, in numbers that no size can overflow.
@@ -166,56 +128,6 @@ pub fn sizes_of(h: Hall) -> Sizes
     }
 }
 
-// The refusal for a hall and a uid, 0 for none.
-fn refused_uid(h: Hall, uid: u32) -> u32
-    ensures { λ r. ⌜ r ≡ refusal (asksHall h ∷ asksUid h uid ∷ []) ⌝ }
-{
-    if !is_valid(h) {
-        return BAD_HALL;
-    }
-    if size(h.n, h.k) <= uid {
-        return BAD_UID;
-    }
-    0
-}
-
-// The refusal for a hall, a uid and a level from `lowest` on, 0 for none.
-fn refused_level(h: Hall, uid: u32, lowest: u32, level: u32) -> u32
-    ensures { λ r. ⌜ r ≡ refusal (asksHall h ∷ asksUid h uid ∷ asksLevel h lowest level ∷ []) ⌝ }
-{
-    let refused = refused_uid(h, uid);
-    if refused != 0 {
-        return refused;
-    }
-    if level < lowest {
-        return BAD_RANGE;
-    }
-    if h.k < level {
-        return BAD_RANGE;
-    }
-    0
-}
-
-// The DCell of a level around a server.
-pub fn cell_around(h: Hall, uid: u32, level: u32) -> Cell
-    ensures { λ r. ⌜ r ≡ cellAround h uid level ⌝ }
-{
-    let refused = refused_level(h, uid, 0, level);
-    if refused != 0 {
-        return Cell {
-            refusal: refused,
-            first: 0,
-            count: 0,
-        };
-    }
-    let count = size(h.n, level);
-    Cell {
-        refusal: 0,
-        first: uid / count * count,
-        count,
-    }
-}
-
 // The first uid of the cell around uid, over sub-cells of `size` servers each.
 fn first_over(size: u32, uid: u32) -> u64
     requires { ⌜ 0 < size ⌝ }
@@ -285,174 +197,5 @@ pub fn ends_over(size: u32, x: u32, y: u32) -> Ends
     Ends {
         near: end_at(first, t, p, q),
         far: end_at(first, t, q, p),
-    }
-}
-
-// The neighbour of a server at a level.
-pub fn neighbour_of(h: Hall, uid: u32, level: u32) -> Neighbour
-    ensures { λ r. ⌜ r ≡ neighbourOf h uid level ⌝ }
-{
-    let refused = refused_level(h, uid, 1, level);
-    if refused != 0 {
-        return Neighbour {
-            refusal: refused,
-            uid: 0,
-        };
-    }
-    let joined = neighbour_over(size(h.n, level - 1), uid);
-    Neighbour {
-        refusal: 0,
-        uid: joined as u32,
-    }
-}
-
-// The refusal for the link between the sub-cells p and q, 0 for none.
-fn refused_link(h: Hall, uid: u32, level: u32, p: u32, q: u32) -> u32
-    ensures { λ r. ⌜ r ≡ refusal (asksLink h uid level p q) ⌝ }
-{
-    let refused = refused_level(h, uid, 1, level);
-    if refused != 0 {
-        return refused;
-    }
-    let t = size(h.n, level - 1);
-    if t < p {
-        return BAD_RANGE;
-    }
-    if t < q {
-        return BAD_RANGE;
-    }
-    if p == q {
-        return BAD_RANGE;
-    }
-    0
-}
-
-// The link between the sub-cells p and q of the DCell of a level around a server, the end in p first.
-pub fn link_between(h: Hall, uid: u32, level: u32, p: u32, q: u32) -> Link
-    ensures { λ r. ⌜ r ≡ linkBetween h uid level p q ⌝ }
-{
-    let refused = refused_link(h, uid, level, p, q);
-    if refused != 0 {
-        return Link {
-            refusal: refused,
-            from: 0,
-            to: 0,
-        };
-    }
-    let t = size(h.n, level - 1);
-    let first = first_over(t, uid);
-    let from = end_at(first, t as u64, p as u64, q as u64);
-    let to = end_at(first, t as u64, q as u64, p as u64);
-    Link {
-        refusal: 0,
-        from: from as u32,
-        to: to as u32,
-    }
-}
-
-// Whether a place of a tuple is within its limit, and 0 above k.
-fn entry_fits(n: u32, k: u32, entries: [u32; 4], i: u32) -> bool
-    requires { ⌜ (n ≤ 8) × (k ≤ 3) × (i < 4) ⌝ }
-    ensures { λ r. ⌜ r ≡ entryFits n k entries i ⌝ }
-{
-    let at = i as usize;
-    let entry = entries[at];
-    if k < i {
-        return entry == 0;
-    }
-    if i == 0 {
-        return entry < n;
-    }
-    entry < size(n, i - 1) + 1
-}
-
-// Whether every place of a tuple is within its limit.
-fn tuple_fits(n: u32, k: u32, entries: [u32; 4]) -> bool
-    requires { ⌜ (n ≤ 8) × (k ≤ 3) ⌝ }
-    ensures { λ r. ⌜ r ≡ tupleFits n k entries ⌝ }
-{
-    let mut i: u32 = 0;
-    while i < 4 {
-        if !entry_fits(n, k, entries, i) {
-            return false;
-        }
-        i += 1;
-    }
-    true
-}
-
-// The uid of a tuple that fits.
-fn uid_up_to(n: u32, k: u32, entries: [u32; 4]) -> u32
-    requires { ⌜ (n ≤ 8) × (k ≤ 3) × (tupleFits n k entries ≡ true) ⌝ }
-    ensures { λ r. ⌜ r ≡ uidUpTo n k entries ⌝ }
-{
-    let mut uid = entries[0];
-    let mut s = n;
-    let mut i: u32 = 0;
-    while i < k {
-        let at = (i + 1) as usize;
-        uid = uid + entries[at] * s;
-        s = (s + 1) * s;
-        i += 1;
-    }
-    uid
-}
-
-// The uid of a tuple.
-pub fn uid_of(h: Hall, entries: [u32; 4]) -> Uid
-    ensures { λ r. ⌜ r ≡ uidOf h entries ⌝ }
-{
-    if !is_valid(h) {
-        return Uid {
-            refusal: BAD_HALL,
-            uid: 0,
-        };
-    }
-    if !tuple_fits(h.n, h.k, entries) {
-        return Uid {
-            refusal: BAD_RANGE,
-            uid: 0,
-        };
-    }
-    Uid {
-        refusal: 0,
-        uid: uid_up_to(h.n, h.k, entries),
-    }
-}
-
-// The entries of a uid up to level k, zeros above.
-fn entries_up_to(n: u32, k: u32, uid: u32) -> [u32; 4]
-    requires { ⌜ (2 ≤ n) × (n ≤ 8) × (k ≤ 3) ⌝ }
-    ensures { λ r. ⌜ r ≡ tuple n k uid ⌝ }
-{
-    let mut entries = [0u32; 4];
-    entries[0] = uid % n;
-    let mut cell = uid / n;
-    let mut s = n;
-    let mut i: u32 = 0;
-    while i < k {
-        let at = (i + 1) as usize;
-        entries[at] = cell % (s + 1);
-        cell = cell / (s + 1);
-        s = (s + 1) * s;
-        i += 1;
-    }
-    entries
-}
-
-// The tuple of a uid.
-pub fn tuple_of(h: Hall, uid: u32) -> Tuple
-    ensures { λ r. ⌜ r ≡ tupleOf h uid ⌝ }
-{
-    let refused = refused_uid(h, uid);
-    if refused != 0 {
-        return Tuple {
-            refusal: refused,
-            entries: [0u32; 4],
-        };
-    }
-    Tuple {
-        refusal: 0,
-        entries: entries_up_to(h.n, h.k, uid),
     }
 }

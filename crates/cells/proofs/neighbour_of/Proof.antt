@@ -1,0 +1,83 @@
+-- `cells::neighbour_of` meets its contract: sub-cells of level i - 1 have t(i - 1) servers, and a neighbour is in the hall.
+use borrow.Author.Needs.{needs}
+use mathlib.Core.Path.{_≡_, refl, sym, _∙_, ap}
+use Prim.Native.Nat.{ℕ, _-_, _<_, _≤_}
+use native.Mathlib.Omega.{arith}
+use lib.ListN.{getD}
+use Rattle.hall.specs.declared.Hall.{Hall}
+use Rattle.hall.specs.Cells.{t, neighbourOver, neighbour}
+use Rattle.hall.specs.Halls.{servers}
+use Rattle.hall.proofs.Growth.{valid-size, sizes-at}
+use Rattle.hall.proofs.Links.{neighbour-in}
+use Rattle.cells.proofs.Asks.{SoundLevel, level-known, refused-test, sound-test}
+use Rattle.cells.proofs.neighbour_of.Statement.{statement}
+use Rattle.cells.proofs.neighbour_of.Tie as tie
+
+sizes-of-requires : tie.Need-sizes-of-requires
+sizes-of-requires c κs = search needs
+
+refused-level-requires : tie.Need-refused-level-requires
+refused-level-requires c κs = search needs
+
+returns : tie.Need-returns
+returns c = let r = c .before .refused-level in rw (refused-test (r .ensures) (c .if1 .taken), ← r .ensures)
+
+known : (c : tie.Else1) → let a = c .before .before .before .args in SoundLevel (a .h) (a .uid) 1 (a .level)
+known c = level-known _ _ _ _ (sym (c .before .refused-level .ensures) ∙ c .if1 .left)
+
+sized : (c : tie.Else1) → let a = c .before .before .before .args in getD (c .before .before .sizes-of .result .t) (a .level - 1) 0 ≡ t (a .h .n) (a .level - 1)
+sized c = let k = known c in sizes-at _ _ (c .before .before .sizes-of .ensures) (k .sound) _ (omega (arith, k .high))
+
+sub-neighbour-over : tie.Need-sub-neighbour-over
+sub-neighbour-over c = let k = known (c .before) in omega (arith, k .low)
+
+cast-neighbour-over : tie.Need-cast-neighbour-over
+cast-neighbour-over c = search needs
+
+mul-neighbour-over : tie.Need-mul-neighbour-over
+mul-neighbour-over c = search needs
+
+array-read-neighbour-over : tie.Need-array-read-neighbour-over
+array-read-neighbour-over c = let k = known (c .before) in omega (arith, k .high, k .known .k-high)
+
+neighbour-over-requires : tie.Need-neighbour-over-requires
+neighbour-over-requires c κs = search needs
+
+-- what the kernel answers at the size of level i - 1
+is-neighbour : (n u i s r : ℕ) → s ≡ t n (i - 1) → r ≡ neighbourOver s u → r ≡ neighbour n (i - 1) u
+unfolding neighbour
+is-neighbour n u i s r e f = f ∙ ap (λ (k : ℕ). neighbourOver k u) e
+
+fits : (h : Hall) (u i r : ℕ) → SoundLevel h u 1 i → r ≡ neighbour (h .n) (i - 1) u → r < 4294967296
+unfolding servers
+fits h u i r k e =
+    let b = neighbour-in (h .n) (omega (arith, k .known .n-low)) (i - 1) (h .k) u (omega (arith, k .low, k .high)) (k .below) in
+    omega (arith, valid-size h (k .known) (h .k) (omega arith))
+
+joined : (c : tie.After-neighbour-over) → let a = c .before .before .before .before .before .args in c .neighbour-over .result ≡ neighbour (a .h .n) (a .level - 1) (a .uid)
+joined c = let a = c .before .before .before .before .before .args in
+    is-neighbour (a .h .n) (a .uid) (a .level) _ _ (sized (c .before .before)) (c .neighbour-over .ensures)
+
+cast-t9 : tie.Need-cast-t9
+cast-t9 c =
+    let a = c .before .before .before .before .before .args in
+    let f = fits (a .h) (a .uid) (a .level) _ (known (c .before .before)) (joined c) in
+    omega arith
+
+returns-2 : tie.Need-returns-2
+returns-2 c = rw (sound-test (c .before .before .before .refused-level .ensures) (c .before .before .if1 .left), joined c)
+
+pub neighbour-of-spec : {M : Type 1} → statement M
+neighbour-of-spec =
+    tie.close
+    (tie.spec
+    sizes-of-requires
+    refused-level-requires
+    returns
+    sub-neighbour-over
+    cast-neighbour-over
+    mul-neighbour-over
+    array-read-neighbour-over
+    neighbour-over-requires
+    cast-t9
+    returns-2)

@@ -1,0 +1,29 @@
+-- `cells::refused_level` meets its contract: what is refused before the level is refused with it, and then the level decides.
+use borrow.Author.Needs.{needs}
+use borrow.Author.Tests.{lt-leb, le-leb, lt-ltb}
+use mathlib.Core.Path.{_≡_, sym, _∙_}
+use Rattle.combine.proofs.Tests.{both-false}
+use Rattle.hall.specs.Refusals.{refusal}
+use Rattle.cells.proofs.Asks.{level-later, level-low, level-high, level-sound, uid-known}
+use Rattle.cells.proofs.refused_level.Statement.{statement}
+use Rattle.cells.proofs.refused_level.Tie as tie
+
+refused-uid-requires : tie.Need-refused-uid-requires
+refused-uid-requires c κs = search needs
+
+returns : tie.Need-returns
+returns c = level-later _ _ _ _ (c .before .refused-uid .ensures) (c .if1 .taken)
+
+returns-2 : tie.Need-returns-2
+returns-2 c = let r = c .before .before .refused-uid in level-low _ _ _ _ (sym (r .ensures) ∙ c .before .if1 .left) (c .if2 .taken)
+
+returns-3 : tie.Need-returns-3
+returns-3 c = let r = c .before .before .before .before .refused-uid in level-high _ _ _ _ (sym (r .ensures) ∙ c .before .before .before .if1 .left) (c .if3 .taken)
+
+returns-4 : tie.Need-returns-4
+returns-4 c =
+    let r = c .before .before .before .before .refused-uid in
+    level-sound _ _ _ _ (sym (r .ensures) ∙ c .before .before .before .if1 .left) (c .before .before .if2 .left) (c .if3 .left)
+
+pub refused-level-spec : {M : Type 1} → statement M
+refused-level-spec = tie.close (tie.spec refused-uid-requires returns returns-2 returns-3 returns-4)
