@@ -6,9 +6,10 @@ use std::path::PathBuf;
 /// The folder of the static libraries, seen from this package.
 const STATIC_LIBRARIES: &str = "../target/staticlib";
 /// The static libraries that `src/rattle.rs` names.
-const ARCHIVES: [&str; 5] = [
+const ARCHIVES: [&str; 6] = [
     "libcalls.a",
     "libdriver.a",
+    "libpacketcalls.a",
     "libpartcalls.a",
     "libsheetcalls.a",
     "liblinecalls.a",

@@ -1,9 +1,12 @@
 //! Calls every public function with any numbers and bytes at all, to show that each of them answers, and as docs/RULES.md shapes it.
 
 use crate::forward::{journey, step, Packet};
-use crate::hall::{cell, link, neighbour, sizes, tuple_of, uid_of, Hall};
+use crate::hall::{
+    b_fits, cell, ends_over, is_valid, k_fits, link, n_fits, neighbour, neighbour_over, servers_of,
+    sizes, tuple_of, uid_of, Hall,
+};
 use crate::random::Random;
-use crate::route::{route, route_words};
+use crate::route::{first_link, route, route_words};
 use crate::{broadcast, frame, local, naive, ports, report, sheet};
 
 /// A number that is small, near a bound, or any at all.
@@ -84,7 +87,15 @@ fn hall_and_route_calls_answer_any_numbers() {
         assert!([0, 1, 2, 3].contains(&cell(h, x, level).refusal));
         assert!([0, 1, 2, 3].contains(&neighbour(h, x, level).refusal));
         assert!([0, 1, 2, 3].contains(&link(h, x, level, p, q).refusal));
+        assert_eq!(is_valid(h), sizes(h).refusal == 0);
+        assert!(!is_valid(h) || n_fits(h.n) && k_fits(h.n, h.k) && b_fits(h.k, h.b));
+        assert_eq!(is_valid(h), servers_of(h) > 0);
         let answer = route(h, x, y);
+        let first = first_link(h, x, y);
+        assert!(answer.refusal == 0 || first.is_none());
+        assert!(first.is_none_or(|(near, far, _)| {
+            answer.uids.windows(2).any(|pair| pair == [near, far])
+        }));
         let mut room = [0xEE; 64];
         let length = random.below(65) as usize;
         let refusal = route_words(h, x, y, &mut room[..length]);
@@ -93,6 +104,30 @@ fn hall_and_route_calls_answer_any_numbers() {
             other => assert_eq!(refusal, other),
         }
         assert!(refusal == 0 || room == [0xEE; 64]);
+    }
+}
+
+#[test]
+fn calls_over_any_size_answer_any_numbers() {
+    let mut random = Random::new(105);
+    for _ in 0..100_000 {
+        let [size, x, y] = [(); 3].map(|()| number(&mut random));
+        let other = neighbour_over(size, x);
+        let (near, far) = ends_over(size, x, y);
+        if size == 0 {
+            assert_eq!([other, near, far], [0; 3]);
+            continue;
+        }
+        let cell = (u64::from(size) + 1) * u64::from(size);
+        let first = u64::from(x) / cell * cell;
+        assert_eq!(other / cell * cell, first);
+        assert!([near, far]
+            .iter()
+            .all(|end| (0..=cell).contains(&(end - first))));
+        if let Ok(narrow) = u32::try_from(other) {
+            assert_eq!(neighbour_over(size, narrow), u64::from(x));
+            assert_eq!(ends_over(size, x, narrow), (u64::from(x), other));
+        }
     }
 }
 
@@ -107,6 +142,13 @@ fn table_calls_answer_any_numbers_and_bytes() {
         let checked = ports::check(h, &whole);
         assert!([0, 1, 4, 5].contains(&checked.refusal));
         assert!(checked.refusal == 5 || checked.place == 0);
+        let unknown = ports::first_unknown(&whole);
+        assert!(whole
+            .get(unknown)
+            .is_none_or(|&code| !ports::is_known(code)));
+        assert!(checked.refusal != 0 || unknown == whole.len());
+        let port = number(&mut random);
+        assert!(!ports::is_up(h, &whole, x, port) || (port as usize) < whole.len());
         let (refusal, part) = ports::part(h, &whole, x);
         assert_eq!(refusal == 0, !part.is_empty());
         let away = local::distances(h, x, &own);
@@ -143,6 +185,13 @@ fn frame_calls_answer_any_bytes_and_fields() {
         let mut bytes = vec![0xEE; random.below(80) as usize];
         let refusal = frame::write(fields, &mut bytes);
         assert!(refusal == 0 || bytes.iter().all(|&byte| byte == 0xEE));
+        let [source, destination, proxy] = [fields.source, fields.destination, fields.proxy];
+        let fit = frame::addresses_fit(source, destination, fields.has_proxy, proxy);
+        assert!(fields.retry > 15 || fit == (refusal != 11));
+        let sum = random.bits() >> random.below(64);
+        let complement = u64::from(frame::complement(sum));
+        assert_eq!((sum % 65_535 + complement) % 65_535, 0);
+        assert_eq!(complement == 65_535, sum == 0);
         for _ in 0..random.below(2) {
             if let Some(byte) = bytes.get_mut(random.below(24) as usize) {
                 *byte = random.byte();
@@ -172,6 +221,13 @@ fn sheet_calls_answer_any_bytes() {
         }
         let read = sheet::read(&bytes);
         let first = sheet::packet(&bytes, 0);
+        let fields = sheet::packet_fields(&bytes, number(&mut random));
+        assert_eq!((fields.refusal, fields.place), (0, 0));
+        let at = number(&mut random) as usize;
+        assert!(at + 4 <= bytes.len() || sheet::word_at(&bytes, at) == 0);
+        assert_eq!(sheet::word_at(&bytes, 0), 3);
+        let part = sheet::codes_part(&bytes);
+        assert!(part == sheet::codes(&bytes) || read.refusal != 0);
         let text = report::trace(&bytes);
         if read.refusal != 0 {
             assert_eq!((first.refusal, first.place), (read.refusal, read.place));
@@ -184,5 +240,24 @@ fn sheet_calls_answer_any_bytes() {
         let lines = text.iter().filter(|&&byte| byte == b'\n').count();
         assert_eq!(lines, read.packets as usize + 2);
         assert_eq!(text.last(), Some(&b'\n'));
+    }
+}
+
+#[test]
+fn line_calls_answer_any_numbers() {
+    let mut random = Random::new(106);
+    for _ in 0..5_000 {
+        let [n, k, b, ending, links] = [(); 5].map(|()| number(&mut random));
+        let uids = vec![random.word(); random.below(20) as usize];
+        let mut text = Vec::new();
+        report::hall_line(&mut text, Hall { n, k, b });
+        report::refused_line(&mut text, n, k);
+        report::packet_line(&mut text, n, k, ending, links, b, &uids);
+        let end = number(&mut random) as usize;
+        let part = report::written_part(&text, end);
+        assert_eq!(part, &text[..end.min(text.len())]);
+        let text = String::from_utf8(text).unwrap();
+        assert_eq!(text.lines().count(), 3);
+        assert!(text.ends_with('\n') && !text.contains(" \n"));
     }
 }

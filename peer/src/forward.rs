@@ -1,9 +1,10 @@
 //! One forwarding step of a packet around failures, and the journey that repeats it through a hall.
 
-use crate::hall::{self, door, Hall, Scale};
+use crate::hall::{self, Hall, Scale};
 use crate::local::{LocalCell, NO_DISTANCE};
 use crate::ports;
 use crate::refusal;
+use crate::route::Way;
 
 /// The step sends the packet on.
 pub const FORWARDED: u32 = 0;
@@ -198,14 +199,6 @@ struct Work {
     reroutes: u32,
 }
 
-/// The first link above level b on a route: its level (0 for no such link), its near end as a place, its far end as a uid.
-/// Where there is no such link, the near end is the goal.
-struct Way {
-    level: u32,
-    near: usize,
-    far: u32,
-}
-
 /// What a pass from sentence 4 on comes to.
 enum Pass {
     Forward(u32),
@@ -263,7 +256,7 @@ impl<'a> Site<'a> {
     /// Sentences 4 to 10 for a packet whose goal is another server.
     #[inline]
     fn pass(&self, packet: &Packet) -> Pass {
-        let way = self.way_to(packet.goal());
+        let way = Way::between(self.h, self.scale, self.uid, packet.goal());
         if way.level > 0 {
             if !self.cell.up(way.near, way.level) {
                 return Pass::Reroute(way);
@@ -279,33 +272,6 @@ impl<'a> Site<'a> {
             return Pass::Drop(DROP_NO_ROUTE);
         }
         Pass::Reroute(way)
-    }
-
-    /// The first link above level b on the route to a goal.
-    ///
-    /// At each level from the top, a crossing into another sub-cell makes its near end the goal of the levels below.
-    #[inline]
-    fn way_to(&self, goal: u32) -> Way {
-        let (mut first, mut from, mut to) = (0, self.uid, goal);
-        let (mut level, mut far) = (0, 0);
-        for l in (self.h.b + 1..=self.h.k).rev() {
-            let size = self.scale.size(l - 1);
-            let p = self.scale.cells_below(from, l - 1);
-            let q = self.scale.cells_below(to, l - 1);
-            from -= p * size;
-            to -= q * size;
-            if p != q {
-                level = l;
-                far = first + q * size + door(q, p);
-                to = door(p, q);
-            }
-            first += p * size;
-        }
-        Way {
-            level,
-            near: to as usize,
-            far,
-        }
     }
 
     /// Reroutes around a way that is of no use, or tells the drop.

@@ -98,8 +98,12 @@ pub fn write(fields: Fields, room: &mut [u8]) -> u32 {
     if fields.retry > MOST_RETRY {
         return refusal::FIELD;
     }
-    let proxy = fields.has_proxy.then_some(fields.proxy);
-    if !addresses_sound(fields.source, fields.destination, proxy) {
+    if !addresses_fit(
+        fields.source,
+        fields.destination,
+        fields.has_proxy,
+        fields.proxy,
+    ) {
         return refusal::ADDRESS;
     }
     let words = header_words(&fields);
@@ -122,6 +126,27 @@ pub fn next_identification(identification: u32) -> u32 {
     identification.wrapping_add(1)
 }
 
+/// Whether source and proxy are servers and the destination is a server, or a broadcast without a proxy.
+#[inline]
+pub fn addresses_fit(source: u32, destination: u32, has_proxy: bool, proxy: u32) -> bool {
+    let server = |address: u32| address & GROUP_BIT == 0;
+    let broadcast = !server(destination) && destination & BROADCAST_BITS == BROADCAST_BITS;
+    if has_proxy {
+        server(source) && server(destination) && server(proxy)
+    } else {
+        server(source) && (server(destination) || broadcast)
+    }
+}
+
+/// The ones' complement of a plain sum of 16-bit or 32-bit words, its carries brought in; 65,535 for a sum of 0 alone.
+#[inline]
+pub fn complement(sum: u64) -> u32 {
+    let (word, carry) = (sum as u32).overflowing_add((sum >> u32::BITS) as u32);
+    let word = word + u32::from(carry);
+    let (half, carry) = (word as u16).overflowing_add((word >> u16::BITS) as u16);
+    u32::from(!(half + u16::from(carry)))
+}
+
 /// The header of a sound frame, else the refusal.
 #[inline]
 fn parse(frame: &[u8]) -> Result<Header, u32> {
@@ -140,7 +165,7 @@ fn parse(frame: &[u8]) -> Result<Header, u32> {
     if checksum([first, identification, blank, source, destination, proxy]) != given {
         return Err(refusal::CHECKSUM);
     }
-    if !addresses_sound(source, destination, has_proxy.then_some(proxy)) {
+    if !addresses_fit(source, destination, has_proxy, proxy) {
         return Err(refusal::ADDRESS);
     }
     let payload_length = first & LENGTH_BITS;
@@ -192,22 +217,7 @@ fn word<const LENGTH: usize>(bytes: &[u8; LENGTH], at: usize) -> u32 {
 /// The checksum of RFC 791 over header words whose checksum field is zero; a proxy of 0 adds nothing.
 #[inline]
 fn checksum(words: [u32; 6]) -> u32 {
-    let sum: u64 = words.iter().map(|&word| u64::from(word)).sum();
-    let sum = (sum & 0xFFFF) + ((sum >> 16) & 0xFFFF) + (sum >> 32);
-    let sum = (sum & 0xFFFF) + (sum >> 16);
-    let sum = (sum & 0xFFFF) + (sum >> 16);
-    !(sum as u32) & CHECKSUM_BITS
-}
-
-/// Whether source and proxy are servers and the destination is a server, or a broadcast without a proxy.
-#[inline]
-fn addresses_sound(source: u32, destination: u32, proxy: Option<u32>) -> bool {
-    let server = |address: u32| address & GROUP_BIT == 0;
-    let broadcast = !server(destination) && destination & BROADCAST_BITS == BROADCAST_BITS;
-    match proxy {
-        None => server(source) && (server(destination) || broadcast),
-        Some(proxy) => server(source) && server(destination) && server(proxy),
-    }
+    complement(words.iter().map(|&word| u64::from(word)).sum())
 }
 
 /// The words of a sound header, checksum included; the sixth is 0 without a proxy.
@@ -349,6 +359,71 @@ mod tests {
     fn the_identification_after_the_last_is_0() {
         assert_eq!(next_identification(0), 1);
         assert_eq!(next_identification(4_294_967_295), 0);
+    }
+
+    #[test]
+    fn addresses_fit_by_their_kinds_alone() {
+        let servers = [0, 19, 0x0FFF_FFFF, 0x7FFF_FFFF];
+        let broadcasts = [0x8FFF_FFFF, 0x9FFF_FFFF, 0xCFFF_FFFF, u32::MAX];
+        let multicasts = [0x8000_0000, 0x87FF_FFFF, 0x8FFF_FFFE, 0xFFFF_FFFE];
+        let kinds = [('s', servers), ('b', broadcasts), ('m', multicasts)];
+        let any = kinds.map(|(kind, all)| all.map(|address| (kind, address)));
+        let any = any.as_flattened();
+        for &(source_kind, source) in any {
+            for &(destination_kind, destination) in any {
+                for &(proxy_kind, proxy) in any {
+                    let plain = matches!((source_kind, destination_kind), ('s', 's' | 'b'));
+                    let proxied = (source_kind, destination_kind, proxy_kind) == ('s', 's', 's');
+                    assert_eq!(addresses_fit(source, destination, false, proxy), plain);
+                    assert_eq!(addresses_fit(source, destination, true, proxy), proxied);
+                }
+            }
+        }
+    }
+
+    /// 65535 less the number from 1 to 65535 of the same rest, or less 0 for 0.
+    fn literal_complement(sum: u64) -> u32 {
+        let folded = match sum {
+            0 => 0,
+            other => (other - 1) % 65_535 + 1,
+        };
+        65_535 - folded as u32
+    }
+
+    #[test]
+    fn the_complement_of_any_sum_is_that_of_its_rest() {
+        assert_eq!(complement(0), 65_535);
+        assert_eq!(complement(1), 65_534);
+        assert_eq!(complement(65_535), 0);
+        assert_eq!(complement(65_536), 65_534);
+        assert_eq!(complement(u64::MAX), 0);
+        let mut random = Random::new(768);
+        for near in 0..200_000 {
+            let power = 1u64 << (near % 64);
+            let sums = [
+                near,
+                u64::MAX - near,
+                power.wrapping_sub(near / 64),
+                power.wrapping_add(near / 64),
+                65_535 * (random.bits() >> (16 + near % 48)),
+                random.bits() >> (near % 64),
+            ];
+            for sum in sums {
+                assert_eq!(complement(sum), literal_complement(sum));
+            }
+        }
+    }
+
+    #[test]
+    fn the_complement_is_the_checksum_by_halves_and_by_words() {
+        let mut header = SAMPLE;
+        header[10..12].fill(0);
+        let (halves, _) = header.as_chunks();
+        let (words, _) = header.as_chunks();
+        let halves = halves.iter().copied().map(u16::from_be_bytes);
+        let words = words.iter().copied().map(u32::from_be_bytes);
+        assert_eq!(complement(halves.map(u64::from).sum()), 0x9AD6);
+        assert_eq!(complement(words.map(u64::from).sum()), 0x9AD6);
     }
 
     #[test]

@@ -1,5 +1,5 @@
-//! The proved calls, as the static libraries of the crates `calls`, `driver`, `partcalls`, `sheetcalls` and `linecalls` export them,
-//! behind safe functions.
+//! The proved calls, as the static libraries of the crates `calls`, `packetcalls`, `driver`, `partcalls`, `sheetcalls` and
+//! `linecalls` export them, behind safe functions.
 //!
 //! Nothing checks these declarations against the Rattle source: whoever changes a signature there changes it here. A slice is two
 //! arguments to Rattle, a pointer and a length, and is declared as two. A Rust slice would be one: where a single register is left
@@ -54,6 +54,32 @@ mod foreign {
             room: *mut u32,
             length: usize,
         ) -> u32;
+        pub fn calls_check(n: u32, k: u32, b: u32, table: *const u8, codes: usize) -> u32;
+        pub fn calls_check_place(n: u32, k: u32, b: u32, table: *const u8, codes: usize) -> u32;
+        pub fn calls_part(
+            n: u32,
+            k: u32,
+            b: u32,
+            table: *const u8,
+            codes: usize,
+            uid: u32,
+            room: *mut u8,
+            length: usize,
+        ) -> u32;
+        pub fn calls_route(
+            n: u32,
+            k: u32,
+            b: u32,
+            x: u32,
+            y: u32,
+            room: *mut u32,
+            length: usize,
+        ) -> u32;
+        pub fn calls_route_links(n: u32, k: u32, b: u32, x: u32, y: u32) -> u32;
+    }
+
+    #[link(name = "packetcalls", kind = "static")]
+    unsafe extern "C" {
         pub fn calls_journey(
             n: u32,
             k: u32,
@@ -84,28 +110,6 @@ mod foreign {
             room: *mut u32,
             length: usize,
         ) -> u32;
-        pub fn calls_check(n: u32, k: u32, b: u32, table: *const u8, codes: usize) -> u32;
-        pub fn calls_check_place(n: u32, k: u32, b: u32, table: *const u8, codes: usize) -> u32;
-        pub fn calls_part(
-            n: u32,
-            k: u32,
-            b: u32,
-            table: *const u8,
-            codes: usize,
-            uid: u32,
-            room: *mut u8,
-            length: usize,
-        ) -> u32;
-        pub fn calls_route(
-            n: u32,
-            k: u32,
-            b: u32,
-            x: u32,
-            y: u32,
-            room: *mut u32,
-            length: usize,
-        ) -> u32;
-        pub fn calls_route_links(n: u32, k: u32, b: u32, x: u32, y: u32) -> u32;
         pub fn calls_distances(
             n: u32,
             k: u32,
@@ -231,6 +235,14 @@ mod foreign {
         ) -> bool;
         pub fn calls_is_known(code: u8) -> bool;
         pub fn calls_first_unknown(table: *const u8, codes: usize) -> usize;
+        pub fn calls_addresses_fit(
+            source: u32,
+            destination: u32,
+            has_proxy: bool,
+            proxy: u32,
+        ) -> bool;
+        pub fn calls_complement(sum: u64) -> u32;
+        pub fn calls_word_at(sheet: *const u8, bytes: usize, at: usize) -> u32;
     }
 
     #[link(name = "sheetcalls", kind = "static")]
@@ -494,6 +506,21 @@ pub fn is_known(code: u8) -> bool {
 #[inline]
 pub fn first_unknown(table: &[u8]) -> usize {
     unsafe { foreign::calls_first_unknown(table.as_ptr(), table.len()) }
+}
+
+/// Whether each address is of a kind that may stand where it stands.
+pub fn addresses_fit(source: u32, destination: u32, has_proxy: bool, proxy: u32) -> bool {
+    unsafe { foreign::calls_addresses_fit(source, destination, has_proxy, proxy) }
+}
+
+/// The ones' complement of a plain sum with its carries brought in.
+pub fn complement(sum: u64) -> u32 {
+    unsafe { foreign::calls_complement(sum) }
+}
+
+/// The number in four bytes of a sheet, 0 where they are not there.
+pub fn word_at(sheet: &[u8], at: usize) -> u32 {
+    unsafe { foreign::calls_word_at(sheet.as_ptr(), sheet.len(), at) }
 }
 
 /// The uids of the route from x to y, zeros behind them.

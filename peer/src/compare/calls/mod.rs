@@ -3,12 +3,14 @@
 //! To add a call: declare it in `rattle.rs`, with a pointer and a length for each slice, and wrap it there; write its module here,
 //! an `impl Call` like the others; add its line to `CALLS`.
 
+mod addresses_fit;
 mod b_fits;
 mod broadcast;
 mod cell;
 mod check;
 mod check_place;
 mod codes_part;
+mod complement;
 mod distances;
 mod distances_origin;
 mod driver_route;
@@ -52,6 +54,7 @@ mod step;
 mod trace;
 mod tuple;
 mod uid;
+mod word_at;
 mod write_header;
 mod written_part;
 
@@ -105,6 +108,8 @@ pub const CALLS: &[Listed] = &[
     listed::<payload::Payload>(),
     listed::<write_header::WriteHeader>(),
     listed::<next_identification::NextIdentification>(),
+    listed::<addresses_fit::AddressesFit>(),
+    listed::<complement::Complement>(),
     listed::<sheet::Sheet>(),
     listed::<sheet_place::SheetPlace>(),
     listed::<sheet_codes::SheetCodes>(),
@@ -112,6 +117,7 @@ pub const CALLS: &[Listed] = &[
     listed::<sheet_packet::SheetPacket>(),
     listed::<sheet_packet_place::SheetPacketPlace>(),
     listed::<packet_fields::PacketFields>(),
+    listed::<word_at::WordAt>(),
     listed::<opening_line::OpeningLine>(),
     listed::<journey_line::JourneyLine>(),
     listed::<end_line::EndLine>(),

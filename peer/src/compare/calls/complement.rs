@@ -1,0 +1,66 @@
+//! The ones' complement of a plain sum with its carries brought in.
+
+use peer::frame;
+use peer::random::Random;
+use peer::refusal::NONE;
+
+use crate::compare::call::Call;
+use crate::compare::cases::Case;
+use crate::compare::frames::edge_words;
+use crate::compare::room::{told, Room};
+use crate::rattle;
+
+/// The numbers up to which every sum is tried: several times round 65,535.
+const TRIED: u64 = 400_000;
+/// The most words that a header's sum has.
+const MOST_WORDS: u64 = 6;
+/// What the sums come round at.
+const ROUND: u64 = 65_535;
+
+/// The call `calls_complement`, which returns the complement.
+pub struct Complement;
+
+impl Call for Complement {
+    type Input = u64;
+    type Rooms = Room<u32>;
+
+    const NAME: &'static str = "complement";
+    const NUMBERS: &'static [u32] = &[NONE];
+
+    fn any(random: &mut Random) -> u64 {
+        let sum = random.bits() >> random.below(u64::BITS);
+        if random.once_in(2) {
+            sum
+        } else {
+            sum / ROUND * ROUND
+        }
+    }
+
+    fn edges() -> impl Iterator<Item = u64> {
+        let words = edge_words().flat_map(|high| {
+            edge_words().map(move |low| (u64::from(high) << u32::BITS) | u64::from(low))
+        });
+        (0..TRIED).chain(words)
+    }
+
+    fn rooms(_: &u64, _: &mut Random) -> Room<u32> {
+        Room::new(1)
+    }
+
+    fn cases() -> Vec<Case<u64>> {
+        let of_a_header = |random: &mut Random| MOST_WORDS * u64::from(random.word());
+        vec![Case::named("a header's sum", of_a_header)]
+    }
+
+    fn ample_rooms() -> Room<u32> {
+        Room::new(1)
+    }
+
+    fn rattle(&sum: &u64, room: &mut Room<u32>) -> u32 {
+        told(NONE, &[rattle::complement(sum)], room.lent())
+    }
+
+    fn peer(&sum: &u64, room: &mut Room<u32>) -> u32 {
+        told(NONE, &[frame::complement(sum)], room.lent())
+    }
+}

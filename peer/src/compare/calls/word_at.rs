@@ -1,0 +1,79 @@
+//! The number in four bytes of a sheet, wherever they stand.
+
+use peer::random::Random;
+use peer::refusal::NONE;
+use peer::sheet;
+
+use super::sheet::SHEETS;
+use crate::compare::call::Call;
+use crate::compare::inputs::around;
+use crate::compare::room::{told, Room};
+use crate::compare::sheets::{any_sheet, edge_sheets, Sheet};
+use crate::rattle;
+
+/// The places from which four bytes are at no sheet's end, though their sum with 4 may be.
+const BEYOND: [usize; 4] = [usize::MAX, usize::MAX - 3, usize::MAX - 4, 1 << 32];
+/// The places that are tried at the start of each sheet at an edge, and at its end.
+const TRIED: usize = 6;
+
+/// The call `calls_word_at`, which returns the number.
+pub struct WordAt;
+
+/// A sheet, sound or not, and a place in it or behind it.
+#[derive(Debug)]
+pub struct Input {
+    sheet: Sheet,
+    at: usize,
+}
+
+impl Call for WordAt {
+    type Input = Input;
+    type Rooms = Room<u32>;
+
+    const NAME: &'static str = "word at";
+    const NUMBERS: &'static [u32] = &[NONE];
+    const INPUTS: u32 = SHEETS;
+
+    fn any(random: &mut Random) -> Input {
+        let sheet = any_sheet(random);
+        let length = sheet.len() as u32;
+        let at = match random.below(8) {
+            0 => BEYOND[random.below(BEYOND.len() as u32) as usize],
+            1 => random.bits() as usize >> random.below(u64::BITS),
+            2 => around(random, length) as usize,
+            _ => random.below(length + 1) as usize,
+        };
+        Input { sheet, at }
+    }
+
+    fn edges() -> impl Iterator<Item = Input> {
+        edge_sheets().flat_map(|sheet| {
+            let end = sheet.len();
+            let places = (0..TRIED).chain(end.saturating_sub(TRIED)..end + TRIED);
+            places.chain(BEYOND).map(move |at| Input {
+                sheet: sheet.clone(),
+                at,
+            })
+        })
+    }
+
+    fn rooms(_: &Input, _: &mut Random) -> Room<u32> {
+        Room::new(1)
+    }
+
+    fn ample_rooms() -> Room<u32> {
+        Room::new(1)
+    }
+
+    fn rattle(input: &Input, room: &mut Room<u32>) -> u32 {
+        told(
+            NONE,
+            &[rattle::word_at(&input.sheet, input.at)],
+            room.lent(),
+        )
+    }
+
+    fn peer(input: &Input, room: &mut Room<u32>) -> u32 {
+        told(NONE, &[sheet::word_at(&input.sheet, input.at)], room.lent())
+    }
+}
