@@ -12,8 +12,8 @@ use Rattle.hall.specs.declared.Hall.{Hall}
 use Rattle.hall.specs.Refusals.{refusal}
 use Rattle.hall.specs.Halls.{valid, servers, asksHall, asksUid, asksLevel}
 use Rattle.hall.specs.Cells.{g}
-use Rattle.cells.specs.Answers.{asksLink}
 use Rattle.hall.proofs.Growth.{Valid, valid-known}
+use Rattle.cells.specs.Answers.{asksLink}
 
 -- a refusal that is not 0 is no refusal of 0
 not-zero {ℓ} : {A : Type ℓ} (m : ℕ) → m ≡ 0 → 0 < m → A
@@ -48,7 +48,6 @@ level-later false u l r e d = e
 
 -- what is known where nothing is refused
 pub record SoundUid (h : Hall) (u : ℕ) : Type 0 where
-  pub sound : valid h ≡ true
   pub known : Valid h
   pub below : u < servers h
 
@@ -61,7 +60,7 @@ pub record SoundLevel (h : Hall) (u lowest i : ℕ) : Type 0 where
 
 pub uid-known : (h : Hall) (u : ℕ) → refusal (asksHall h ∷ asksUid h u ∷ []) ≡ 0 → SoundUid h u
 uid-known h u e = let s = sound-uid (valid h) (ltb u (servers h)) e in
-    record { sound = s .0; known = valid-known h (s .0); below = ltb-true u (servers h) (s .1) }
+    record { known = valid-known h (s .0); below = ltb-true u (servers h) (s .1) }
 
 pub level-known : (h : Hall) (u lowest i : ℕ) → refusal (asksHall h ∷ asksUid h u ∷ asksLevel h lowest i ∷ []) ≡ 0 → SoundLevel h u lowest i
 level-known h u lowest i e = let s = sound-level (valid h) (ltb u (servers h)) _ e in

@@ -12,8 +12,8 @@ use Rattle.combine.proofs.Tests.{both-false}
 use Rattle.hall.specs.declared.Hall.{Hall}
 use Rattle.hall.specs.Refusals.{refusal}
 use Rattle.hall.specs.Cells.{t, g}
-use Rattle.cells.specs.Answers.{subcellsFit, asksLink}
 use Rattle.hall.proofs.Growth.{g-at, sizes-at}
+use Rattle.cells.specs.Answers.{subcellsFit, asksLink}
 use Rattle.cells.proofs.Asks.{SoundLevel, level-known, link-later, link-alone}
 use Rattle.cells.proofs.refused_link.Statement.{statement}
 use Rattle.cells.proofs.refused_link.Tie as tie
