@@ -4,7 +4,6 @@
 //! an `impl Call` like the others; add its line to `CALLS`.
 
 mod addresses_fit;
-mod b_fits;
 mod broadcast;
 mod cell;
 mod check;
@@ -14,10 +13,11 @@ mod complement;
 mod distances;
 mod distances_origin;
 mod driver_route;
+mod end;
 mod end_line;
-mod far_end;
 mod first_link;
 mod first_unknown;
+mod fits;
 mod hall_line;
 mod is_known;
 mod is_up;
@@ -25,10 +25,8 @@ mod is_valid;
 mod journey;
 mod journey_counts;
 mod journey_line;
-mod k_fits;
 mod link;
 mod n_fits;
-mod near_end;
 mod neighbour;
 mod neighbour_over;
 mod next_hop;
@@ -80,13 +78,13 @@ pub const CALLS: &[Listed] = &[
     listed::<neighbour::Neighbour>(),
     listed::<link::Link>(),
     listed::<n_fits::NFits>(),
-    listed::<k_fits::KFits>(),
-    listed::<b_fits::BFits>(),
+    listed::<fits::Fits<false>>(),
+    listed::<fits::Fits<true>>(),
     listed::<is_valid::IsValid>(),
     listed::<servers::Servers>(),
     listed::<neighbour_over::NeighbourOver>(),
-    listed::<near_end::NearEnd>(),
-    listed::<far_end::FarEnd>(),
+    listed::<end::End<false>>(),
+    listed::<end::End<true>>(),
     listed::<route::Route>(),
     listed::<route_links::RouteLinks>(),
     listed::<driver_route::DriverRoute>(),

@@ -1,4 +1,4 @@
-//! The link between the sub-cells of two servers: its end on the side of the first.
+//! The link between the sub-cells of two servers, an end at a time.
 
 use peer::hall;
 use peer::random::Random;
@@ -10,14 +10,14 @@ use crate::compare::numbers::Over;
 use crate::compare::room::{told, Room};
 use crate::rattle;
 
-/// The call `calls_near_end_over`, which returns the end.
-pub struct NearEnd;
+/// The call `calls_near_end_over`, or `calls_far_end_over` where FAR is true; each returns its end.
+pub struct End<const FAR: bool>;
 
-impl Call for NearEnd {
+impl<const FAR: bool> Call for End<FAR> {
     type Input = Over;
     type Rooms = Room<u64>;
 
-    const NAME: &'static str = "near end";
+    const NAME: &'static str = if FAR { "far end" } else { "near end" };
     const NUMBERS: &'static [u32] = &[NONE];
     const INPUTS: u32 = 1_000_000;
 
@@ -42,12 +42,16 @@ impl Call for NearEnd {
     }
 
     fn rattle(at: &Over, room: &mut Room<u64>) -> u32 {
-        let near = rattle::near_end_over(at.size, at.x, at.y);
-        told(NONE, &[near], room.lent())
+        let end = if FAR {
+            rattle::far_end_over(at.size, at.x, at.y)
+        } else {
+            rattle::near_end_over(at.size, at.x, at.y)
+        };
+        told(NONE, &[end], room.lent())
     }
 
     fn peer(at: &Over, room: &mut Room<u64>) -> u32 {
-        let (near, _) = hall::ends_over(at.size, at.x, at.y);
-        told(NONE, &[near], room.lent())
+        let (near, far) = hall::ends_over(at.size, at.x, at.y);
+        told(NONE, &[if FAR { far } else { near }], room.lent())
     }
 }

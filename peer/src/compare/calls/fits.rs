@@ -1,4 +1,4 @@
-//! Whether k is in its range, in a hall of n servers to a switch.
+//! Whether k is in its range, in a hall of n servers to a switch, or b in a hall of top level k.
 
 use peer::hall;
 use peer::random::Random;
@@ -10,14 +10,14 @@ use crate::compare::numbers::{any_number, edge_pairs};
 use crate::compare::room::{told, Room};
 use crate::rattle;
 
-/// The call `calls_k_fits`, which returns a bool.
-pub struct KFits;
+/// The call `calls_k_fits` on n and k, or `calls_b_fits` on k and b where B is true; each returns a bool.
+pub struct Fits<const B: bool>;
 
-impl Call for KFits {
+impl<const B: bool> Call for Fits<B> {
     type Input = [u32; 2];
     type Rooms = Room<u32>;
 
-    const NAME: &'static str = "k fits";
+    const NAME: &'static str = if B { "b fits" } else { "k fits" };
     const NUMBERS: &'static [u32] = &[NONE];
 
     fn any(random: &mut Random) -> [u32; 2] {
@@ -40,13 +40,21 @@ impl Call for KFits {
         Room::new(1)
     }
 
-    fn rattle(&[n, k]: &[u32; 2], room: &mut Room<u32>) -> u32 {
-        let fits = rattle::k_fits(n, k);
+    fn rattle(&[above, number]: &[u32; 2], room: &mut Room<u32>) -> u32 {
+        let fits = if B {
+            rattle::b_fits(above, number)
+        } else {
+            rattle::k_fits(above, number)
+        };
         told(NONE, &[u32::from(fits)], room.lent())
     }
 
-    fn peer(&[n, k]: &[u32; 2], room: &mut Room<u32>) -> u32 {
-        let fits = hall::k_fits(n, k);
+    fn peer(&[above, number]: &[u32; 2], room: &mut Room<u32>) -> u32 {
+        let fits = if B {
+            hall::b_fits(above, number)
+        } else {
+            hall::k_fits(above, number)
+        };
         told(NONE, &[u32::from(fits)], room.lent())
     }
 }
