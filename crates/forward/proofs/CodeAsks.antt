@@ -9,15 +9,14 @@ use lib.Dec.{eqb, ltb, leb}
 use lib.ListN.{length, getD, replicate}
 use borrow.Author.Tests.{eq-eqb, ne-eqb, eqb-true, lt-ltb, le-ltb, ltb-true, le-leb, lt-leb, leb-true}
 use Rattle.combine.specs.Tests.{pick, both, either}
-use Rattle.combine.proofs.Tests.{cases, either-cases}
-use Rattle.combine.proofs.Lists.{getD-upTo}
+use Rattle.combine.proofs.Tests.{either-cases}
 use Rattle.hall.specs.declared.Hall.{Hall}
 use Rattle.hall.specs.declared.Sizes.{Sizes}
 use Rattle.hall.specs.Cells.{t}
 use Rattle.hall.specs.Halls.{valid, servers, largest, asksHall}
 use Rattle.hall.specs.Refusals.{refusal, bad-length}
-use Rattle.hall.specs.Answers.{sizeAt, sizesOf}
-use Rattle.hall.proofs.Growth.{Valid, valid-known, valid-size, size-at}
+use Rattle.hall.specs.Answers.{sizesOf}
+use Rattle.hall.proofs.Growth.{Valid, valid-known, valid-size, sizes-refused, sizes-given, sizes-at}
 use Rattle.ports.specs.Codes.{tableLength, cellLength}
 use Rattle.ports.specs.Answers.{asksTable, asksCell}
 use Rattle.forward.specs.declared.Packet.{Packet}
@@ -67,34 +66,16 @@ refuses-dst count me p k l =
 
 -- the sizes that a call works out once
 module _ (h : Hall) (s : Sizes) (e : s ≡ sizesOf h) where
-  sizes-none : valid h ≡ false → s .refusal ≡ 1
-  unfolding refusal
-  sizes-none v = rw (e, v)
-
-  sizes-some : valid h ≡ true → s .refusal ≡ 0
-  unfolding refusal
-  sizes-some v = rw (e, v)
-
-  pub no-hall : (s .refusal ≡ 0 → ⊥) → valid h ≡ false
-  no-hall ne = cases (valid h) (λ v. absurd (ne (sizes-some v))) (λ v. v)
-
-  pub some-hall : s .refusal ≡ 0 → valid h ≡ true
-  some-hall z = cases (valid h) (λ v. v) (λ v. absurd (omega (arith, sizes-none v)))
-
-  pub size-of : s .refusal ≡ 0 → (i : ℕ) → i ≤ h .k → getD (s .t) i 0 ≡ t (h .n) i
-  unfolding refusal
-  size-of z i l =
-      let v = some-hall z in
-      let k = valid-known h v in
-      rw (e, v) (getD-upTo (sizeAt (h .n) (h .k)) 4 i 0 (omega arith) ∙ size-at (h .n) (h .k) i l)
+  size-of : s .refusal ≡ 0 → (i : ℕ) → i ≤ h .k → getD (s .t) i 0 ≡ t (h .n) i
+  size-of z = sizes-at h s e (sizes-given h s e z)
 
   pub size-fits-in : s .refusal ≡ 0 → (i : ℕ) → i ≤ h .k → getD (s .t) i 0 ≤ largest
-  size-fits-in z i l = rw (size-of z i l) (valid-size h (valid-known h (some-hall z)) i l)
+  size-fits-in z i l = rw (size-of z i l) (valid-size h (valid-known h (sizes-given h s e z)) i l)
 
   pub bytes-fit-in : s .refusal ≡ 0 → (i : ℕ) → i ≤ h .k → getD (s .t) i 0 * (h .k + 1) ≤ 110523168
   bytes-fit-in z i l =
       let a = size-fits-in z i l in
-      let b : h .k + 1 ≤ 4 = omega (arith, valid-known h (some-hall z) .k-high) in
+      let b : h .k + 1 ≤ 4 = omega (arith, valid-known h (sizes-given h s e z) .k-high) in
       omega (arith, mul-le-mul a b)
 
   module _ (level : ℕ) (table : List ℕ) (me : ℕ) (p : Packet) where
@@ -105,7 +86,7 @@ module _ (h : Hall) (s : Sizes) (e : s ≡ sizesOf h) where
     tests = all-tests (valid h) (eqb (length table) (cellLength h level)) (ltb me (servers h)) (ltb (p .dst) (servers h)) (either (not (p .«has_proxy»)) (ltb (p .proxy) (servers h))) (leb (p .retry) 15)
 
     pub refuses-hall : (s .refusal ≡ 0 → ⊥) → s .refusal ≡ refusal (asksHall h ∷ (bad-length, eqb (length table) (cellLength h level)) ∷ asksPacket h me p)
-    refuses-hall ne = let v = no-hall ne in sizes-none v ∙ sym (tests ∙ rw v)
+    refuses-hall ne = let r = sizes-refused h s e ne in r .1 ∙ sym (tests ∙ rw (r .0))
 
     module _ (z : s .refusal ≡ 0) (low : level ≤ h .k) where
       bytes : getD (s .t) level 0 * (h .k + 1) ≡ cellLength h level
@@ -114,14 +95,14 @@ module _ (h : Hall) (s : Sizes) (e : s ≡ sizesOf h) where
 
       pub refuses-length : (length table ≡ getD (s .t) level 0 * (h .k + 1) → ⊥)
           → 4 ≡ refusal (asksHall h ∷ (bad-length, eqb (length table) (cellLength h level)) ∷ asksPacket h me p)
-      refuses-length ne = sym (tests ∙ rw (some-hall z, ne-eqb (length table) (cellLength h level) (λ q. ne (q ∙ sym bytes))))
+      refuses-length ne = sym (tests ∙ rw (sizes-given h s e z, ne-eqb (length table) (cellLength h level) (λ q. ne (q ∙ sym bytes))))
 
       pub refuses-packet : length table ≡ getD (s .t) level 0 * (h .k + 1) → (r : ℕ) → r ≡ refusal (asksBelow (getD (s .t) (h .k) 0) me p)
           → r ≡ refusal (asksHall h ∷ (bad-length, eqb (length table) (cellLength h level)) ∷ asksPacket h me p)
       unfolding servers
       refuses-packet l r q =
           let c : getD (s .t) (h .k) 0 ≡ servers h = size-of z (h .k) (omega arith) in
-          q ∙ ap (λ (k : ℕ). refusal (asksBelow k me p)) c ∙ sym (tests ∙ rw (some-hall z, eq-eqb (length table) (cellLength h level) (l ∙ bytes)))
+          q ∙ ap (λ (k : ℕ). refusal (asksBelow k me p)) c ∙ sym (tests ∙ rw (sizes-given h s e z, eq-eqb (length table) (cellLength h level) (l ∙ bytes)))
 
 -- what is known where nothing is refused
 pub record Unrefused (h : Hall) (level : ℕ) (table : List ℕ) (me : ℕ) (p : Packet) : Type 0 where

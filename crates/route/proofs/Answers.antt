@@ -10,16 +10,14 @@ use lib.Pow.{pow-mono}
 use lib.ListN.{length, getD, drop, replicate}
 use lib.Seq.{sets, sets-eq}
 use borrow.Author.Tests.{lt-ltb, le-ltb}
-use Rattle.combine.specs.Lists.{upTo}
-use Rattle.combine.proofs.Tests.{cases, both-false}
-use Rattle.combine.proofs.Lists.{getD-upTo}
+use Rattle.combine.proofs.Tests.{both-false}
 use Rattle.hall.specs.declared.Hall.{Hall}
 use Rattle.hall.specs.declared.Sizes.{Sizes}
 use Rattle.hall.specs.Refusals.{refusal}
 use Rattle.hall.specs.Cells.{t, same}
-use Rattle.hall.specs.Halls.{places, valid, servers}
-use Rattle.hall.specs.Answers.{sizeAt, sizesOf}
-use Rattle.hall.proofs.Growth.{Valid, valid-known, valid-size, size-at}
+use Rattle.hall.specs.Halls.{valid, servers}
+use Rattle.hall.specs.Answers.{sizesOf}
+use Rattle.hall.proofs.Growth.{Valid, valid-known, valid-size, sizes-given, sizes-at}
 use Rattle.hall.proofs.Links.{hall-same}
 use Rattle.route.specs.declared.Crossing.{Crossing}
 use Rattle.route.specs.declared.Crossing.the-variants.{Nothing}
@@ -29,21 +27,7 @@ use Rattle.route.specs.Filling.{perSwitch, Inside, Room}
 use Rattle.route.proofs.Routes.{route-walk, route-length}
 use Rattle.route.proofs.Lists.{walk-starts}
 
--- the sizes of a hall, by whether there is such a hall
-sizes-valid : (h : Hall) → valid h ≡ true → sizesOf h ≡ record { refusal = 0; t = upTo (sizeAt (h .n) (h .k)) places }
-unfolding refusal
-sizes-valid h e = rw e
-
-sizes-invalid : (h : Hall) → valid h ≡ false → sizesOf h ≡ record { refusal = 1; t = replicate places 0 }
-unfolding refusal
-sizes-invalid h e = rw e
-
-pub sizes-refused : (h : Hall) (s : Sizes) → s ≡ sizesOf h → (s .refusal ≡ 0 → ⊥) → (valid h ≡ false) × (s .refusal ≡ 1)
-sizes-refused h s e d = cases (valid h)
-    (λ q. absurd (d (ap (λ (z : Sizes). z .refusal) (e ∙ sizes-valid h q))))
-    (λ q. (q, ap (λ (z : Sizes). z .refusal) (e ∙ sizes-invalid h q)))
-
--- what is known where they are given
+-- what is known where the sizes of a hall are given
 pub record Given (h : Hall) (sizes : List ℕ) : Type 0 where
   pub sound : valid h ≡ true
   pub known : Valid h
@@ -51,22 +35,18 @@ pub record Given (h : Hall) (sizes : List ℕ) : Type 0 where
   pub at-zero : perSwitch sizes ≡ h .n
   pub at : (i : ℕ) → i ≤ h .k → getD sizes i 0 ≡ t (h .n) i
 
-pub sizes-given : (h : Hall) (s : Sizes) → s ≡ sizesOf h → s .refusal ≡ 0 → Given h (s .t)
+pub sizes-known : (h : Hall) (s : Sizes) → s ≡ sizesOf h → s .refusal ≡ 0 → Given h (s .t)
 unfolding servers t
-sizes-given h s e z = cases (valid h)
-    (λ q.
-    let v = valid-known h q in
-    let w : s .t ≡ upTo (sizeAt (h .n) (h .k)) places = ap (λ (z : Sizes). z .t) (e ∙ sizes-valid h q) in
-    let at : (i : ℕ) → i ≤ h .k → getD (s .t) i 0 ≡ t (h .n) i = λ i l.
-    ap (λ (r : List ℕ). getD r i 0) w ∙ getD-upTo (sizeAt (h .n) (h .k)) places i 0 (omega (arith, v .k-high)) ∙ size-at (h .n) (h .k) i l in
+sizes-known h s e z =
+    let v = sizes-given h s e z in
+    let at = sizes-at h s e v in
     record {
-      sound = q;
-      known = v;
+      sound = v;
+      known = valid-known h v;
       at-k = at (h .k) (omega arith);
       at-zero = at 0 (omega arith);
       at = at;
-    })
-    (λ q. let o : s .refusal ≡ 1 = ap (λ (z : Sizes). z .refusal) (e ∙ sizes-invalid h q) in absurd (omega arith))
+    }
 
 -- the hall is one DCell, that of level k, and x and y are places inside it
 pub whole-hall : (h : Hall) (sizes : List ℕ) (x y : ℕ) → Given h sizes → x < servers h → y < servers h → Inside sizes (h .k) 0 x y

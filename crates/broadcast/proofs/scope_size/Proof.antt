@@ -1,26 +1,22 @@
 -- `broadcast::scope_size` meets its contract: a valid hall's sizes hold t(s) for each level up to k.
-use mathlib.Core.Path.{_≡_, _∙_}
+use mathlib.Core.Path.{_≡_}
 use mathlib.Core.Bool.{true}
 use Prim.Native.Nat.{ℕ, _≤_}
 use native.Mathlib.Omega.{arith}
 use lib.ListN.{getD}
 use borrow.Author.Needs.{needs}
-use Rattle.combine.proofs.Lists.{getD-upTo}
 use Rattle.hall.specs.declared.Hall.{Hall}
 use Rattle.hall.specs.declared.Sizes.{Sizes}
 use Rattle.hall.specs.Halls.{valid}
-use Rattle.hall.specs.Refusals.{refusal}
-use Rattle.hall.specs.Answers.{sizeAt, sizesOf}
-use Rattle.hall.proofs.Growth.{valid-known, size-at}
+use Rattle.hall.specs.Answers.{sizesOf}
+use Rattle.hall.proofs.Growth.{valid-known, sizes-at}
 use Rattle.broadcast.specs.Broadcasts.{scopeSize}
 use Rattle.broadcast.proofs.scope_size.Statement.{statement}
 use Rattle.broadcast.proofs.scope_size.Tie as tie
 
 size-of : (h : Hall) (sizes : Sizes) (s : ℕ) → valid h ≡ true → s ≤ h .k → sizes ≡ sizesOf h → getD (sizes .t) s 0 ≡ scopeSize h s
-unfolding refusal scopeSize
-size-of h sizes s v l e =
-    let k = valid-known h v in
-    rw (e, v) (getD-upTo (sizeAt (h .n) (h .k)) 4 s 0 (omega arith) ∙ size-at (h .n) (h .k) s l)
+unfolding scopeSize
+size-of h sizes s v l e = sizes-at h sizes e v s l
 
 sizes-of-requires : tie.Need-sizes-of-requires
 sizes-of-requires c κs = search needs

@@ -1,7 +1,7 @@
 -- `forward::refused` meets its contract: it makes the tests in the order of refusals.
 use native.Mathlib.Omega.{arith}
-use Rattle.hall.proofs.Growth.{valid-known}
-use Rattle.forward.proofs.CodeAsks.{some-hall, bytes-fit-in, refuses-hall, refuses-length, refuses-packet}
+use Rattle.hall.proofs.Growth.{valid-known, sizes-given}
+use Rattle.forward.proofs.CodeAsks.{bytes-fit-in, refuses-hall, refuses-length, refuses-packet}
 use borrow.Author.Needs.{needs}
 use Rattle.forward.proofs.refused.Statement.{statement}
 use Rattle.forward.proofs.refused.Tie as tie
@@ -16,7 +16,7 @@ mul-bytes : tie.Need-mul-bytes
 mul-bytes c = search needs
 
 array-read-bytes : tie.Need-array-read-bytes
-array-read-bytes c = let v = some-hall _ _ (c .before .before .before .sizes-of .ensures) (c .before .if1 .left) in
+array-read-bytes c = let v = sizes-given _ _ (c .before .before .before .sizes-of .ensures) (c .before .if1 .left) in
     let k = valid-known _ v in
     let l = c .before .before .before .before .before .pre v in
     omega arith
@@ -34,13 +34,13 @@ mul-bytes-2 : tie.Need-mul-bytes-2
 mul-bytes-2 c = let s = c .before .before .before .before .sizes-of in
     let z = c .before .before .if1 .left in
     let a = c .before .before .before .before .before .before .args in
-    omega (arith, bytes-fit-in (a .h) (s .result) (s .ensures) z (a .level) (c .before .before .before .before .before .before .pre (some-hall (a .h) (s .result) (s .ensures) z)))
+    omega (arith, bytes-fit-in (a .h) (s .result) (s .ensures) z (a .level) (c .before .before .before .before .before .before .pre (sizes-given (a .h) (s .result) (s .ensures) z)))
 
 returns-2 : tie.Need-returns-2
 returns-2 c = let e = c .before .before .before .before .before .sizes-of .ensures in
     let z = c .before .before .before .if1 .left in
     let a = c .before .before .before .before .before .before .before .args in
-    refuses-length _ _ e (a .level) (a .table .now) (a .uid) (a .p) z (c .before .before .before .before .before .before .before .pre (some-hall _ _ e z)) (c .if2 .taken)
+    refuses-length _ _ e (a .level) (a .table .now) (a .uid) (a .p) z (c .before .before .before .before .before .before .before .pre (sizes-given _ _ e z)) (c .if2 .taken)
 
 cast-k : tie.Need-cast-k
 cast-k c = search needs
@@ -49,7 +49,7 @@ mul-refused-packet : tie.Need-mul-refused-packet
 mul-refused-packet c = search needs
 
 array-read-refused-packet : tie.Need-array-read-refused-packet
-array-read-refused-packet c = let k = valid-known _ (some-hall _ _ (c .before .before .before .before .before .before .sizes-of .ensures) (c .before .before .before .before .if1 .left)) in omega arith
+array-read-refused-packet c = let k = valid-known _ (sizes-given _ _ (c .before .before .before .before .before .before .sizes-of .ensures) (c .before .before .before .before .if1 .left)) in omega arith
 
 refused-packet-requires : tie.Need-refused-packet-requires
 refused-packet-requires c κs = search needs
@@ -58,7 +58,7 @@ returns-3 : tie.Need-returns-3
 returns-3 c = let e = c .before .before .before .before .before .before .before .sizes-of .ensures in
     let z = c .before .before .before .before .before .if1 .left in
     let a = c .before .before .before .before .before .before .before .before .before .args in
-    refuses-packet _ _ e (a .level) (a .table .now) (a .uid) (a .p) z (c .before .before .before .before .before .before .before .before .before .pre (some-hall _ _ e z)) (c .before .before .if2 .left) _ (c .refused-packet .ensures)
+    refuses-packet _ _ e (a .level) (a .table .now) (a .uid) (a .p) z (c .before .before .before .before .before .before .before .before .before .pre (sizes-given _ _ e z)) (c .before .before .if2 .left) _ (c .refused-packet .ensures)
 
 pub refused-spec : {M : Type 1} → statement M
 refused-spec =

@@ -5,8 +5,9 @@ use Prim.Native.Nat.{_<_}
 use native.Mathlib.Omega.{arith}
 use borrow.Author.Needs.{needs}
 use Rattle.hall.specs.Halls.{servers}
+use Rattle.hall.proofs.Growth.{sizes-refused}
 use Rattle.route.specs.Answers.{noRoute}
-use Rattle.route.proofs.Answers.{Given, sizes-refused, sizes-given, whole-hall, whole-room, route-no-hall, route-no-x, route-no-y, next-fits, route-filled}
+use Rattle.route.proofs.Answers.{Given, sizes-known, whole-hall, whole-room, route-no-hall, route-no-x, route-no-y, next-fits, route-filled}
 use Rattle.route.proofs.route_between.Statement.{statement}
 use Rattle.route.proofs.route_between.Tie as tie
 
@@ -32,7 +33,7 @@ mul-servers c = search needs
 -- the hall's sizes, where they are not refused
 given : (c : tie.After-struct-known2) → Given (c .before .before .before .before .before .args .h) (c .before .before .before .before .sizes-of .result .t)
 given c = let s = c .before .before .before .before .sizes-of in
-    sizes-given (c .before .before .before .before .before .args .h) (s .result) (s .ensures) (c .before .before .if1 .left)
+    sizes-known (c .before .before .before .before .before .args .h) (s .result) (s .ensures) (c .before .before .if1 .left)
 
 array-read-servers : tie.Need-array-read-servers
 array-read-servers c = omega (arith, given c .known .k-high)
