@@ -4,8 +4,10 @@ use std::fmt::Debug;
 use std::iter;
 
 use peer::random::Random;
+use peer::refusal::NONE;
 
 use super::cases::Case;
+use super::room::{told, Element, Room};
 
 /// A call that both implementations have.
 pub trait Call {
@@ -16,8 +18,7 @@ pub trait Call {
 
     /// The name of the call in the tables.
     const NAME: &'static str;
-    /// Every number that the call can return, 0 included; a comparison has to meet each of them. A call that returns a value and no
-    /// refusal is told by 0, with its value in a room of one element.
+    /// Every number that the call can return, 0 included; a comparison has to meet each of them.
     const NUMBERS: &'static [u32];
     /// The random inputs of a short comparison, those of `edges` apart.
     const INPUTS: u32 = 200_000;
@@ -44,4 +45,78 @@ pub trait Call {
     fn rattle(input: &Self::Input, rooms: &mut Self::Rooms) -> u32;
     /// The number that the peer's side returns; its rooms are left as it leaves them.
     fn peer(input: &Self::Input, rooms: &mut Self::Rooms) -> u32;
+}
+
+/// A call that returns a value and no refusal: it is told by 0, with its value in a room of one element.
+pub trait Value {
+    /// What the call is given.
+    type Input: Debug + 'static;
+    /// What it returns.
+    type Told: Element;
+
+    /// The name of the call in the tables.
+    const NAME: &'static str;
+    /// The random inputs of a short comparison, those of `edges` apart.
+    const INPUTS: u32 = 200_000;
+    /// The inputs of each case; fewer for a slow call.
+    const MEASURED: usize = 1024;
+
+    /// Any input: sound, at an edge, or damaged.
+    fn any(random: &mut Random) -> Self::Input;
+    /// The inputs that every comparison tries.
+    fn edges() -> impl Iterator<Item = Self::Input>;
+    /// The inputs that a long comparison tries besides.
+    fn long_edges() -> impl Iterator<Item = Self::Input> {
+        iter::empty()
+    }
+    /// What is measured, a line of the benchmark each; nothing where another call's lines tell as much.
+    fn cases() -> Vec<Case<Self::Input>> {
+        Vec::new()
+    }
+    /// What Rattle's side returns.
+    fn rattle(input: &Self::Input) -> Self::Told;
+    /// What the peer's side returns.
+    fn peer(input: &Self::Input) -> Self::Told;
+}
+
+impl<V: Value> Call for V {
+    type Input = V::Input;
+    type Rooms = Room<V::Told>;
+
+    const NAME: &'static str = V::NAME;
+    const NUMBERS: &'static [u32] = &[NONE];
+    const INPUTS: u32 = V::INPUTS;
+    const MEASURED: usize = V::MEASURED;
+
+    fn any(random: &mut Random) -> V::Input {
+        V::any(random)
+    }
+
+    fn edges() -> impl Iterator<Item = V::Input> {
+        V::edges()
+    }
+
+    fn long_edges() -> impl Iterator<Item = V::Input> {
+        V::long_edges()
+    }
+
+    fn rooms(_: &V::Input, _: &mut Random) -> Room<V::Told> {
+        Room::new(1)
+    }
+
+    fn cases() -> Vec<Case<V::Input>> {
+        V::cases()
+    }
+
+    fn ample_rooms() -> Room<V::Told> {
+        Room::new(1)
+    }
+
+    fn rattle(input: &V::Input, room: &mut Room<V::Told>) -> u32 {
+        told(NONE, &[V::rattle(input)], room.lent())
+    }
+
+    fn peer(input: &V::Input, room: &mut Room<V::Told>) -> u32 {
+        told(NONE, &[V::peer(input)], room.lent())
+    }
 }

@@ -14,6 +14,12 @@ pub trait Element: Copy + PartialEq + Debug + Default {
     fn any(random: &mut Random) -> Self;
 }
 
+impl Element for bool {
+    fn any(random: &mut Random) -> bool {
+        random.once_in(2)
+    }
+}
+
 impl Element for u8 {
     fn any(random: &mut Random) -> u8 {
         random.byte()

@@ -2,12 +2,10 @@
 
 use peer::frame;
 use peer::random::Random;
-use peer::refusal::NONE;
 
-use crate::compare::call::Call;
+use crate::compare::call::Value;
 use crate::compare::cases::Case;
 use crate::compare::frames::edge_words;
-use crate::compare::room::{told, Room};
 use crate::rattle;
 
 /// The numbers up to which every sum is tried: several times round 65,535.
@@ -20,12 +18,11 @@ const ROUND: u64 = 65_535;
 /// The call `calls_complement`, which returns the complement.
 pub struct Complement;
 
-impl Call for Complement {
+impl Value for Complement {
     type Input = u64;
-    type Rooms = Room<u32>;
+    type Told = u32;
 
     const NAME: &'static str = "complement";
-    const NUMBERS: &'static [u32] = &[NONE];
 
     fn any(random: &mut Random) -> u64 {
         let sum = random.bits() >> random.below(u64::BITS);
@@ -43,24 +40,16 @@ impl Call for Complement {
         (0..TRIED).chain(words)
     }
 
-    fn rooms(_: &u64, _: &mut Random) -> Room<u32> {
-        Room::new(1)
-    }
-
     fn cases() -> Vec<Case<u64>> {
         let of_a_header = |random: &mut Random| MOST_WORDS * u64::from(random.word());
         vec![Case::named("a header's sum", of_a_header)]
     }
 
-    fn ample_rooms() -> Room<u32> {
-        Room::new(1)
+    fn rattle(&sum: &u64) -> u32 {
+        rattle::complement(sum)
     }
 
-    fn rattle(&sum: &u64, room: &mut Room<u32>) -> u32 {
-        told(NONE, &[rattle::complement(sum)], room.lent())
-    }
-
-    fn peer(&sum: &u64, room: &mut Room<u32>) -> u32 {
-        told(NONE, &[frame::complement(sum)], room.lent())
+    fn peer(&sum: &u64) -> u32 {
+        frame::complement(sum)
     }
 }

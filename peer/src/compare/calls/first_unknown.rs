@@ -2,12 +2,10 @@
 
 use peer::ports::{self, UP};
 use peer::random::Random;
-use peer::refusal::NONE;
 
 use super::check::{any_tried_codes, Checked};
-use crate::compare::call::Call;
+use crate::compare::call::Value;
 use crate::compare::cases::{by_share, Case};
-use crate::compare::room::{told, Room};
 use crate::compare::tables::Table;
 use crate::rattle;
 
@@ -23,12 +21,11 @@ const LENGTHS: [usize; 8] = [63, 64, 65, 255, 256, 257, 512, 513];
 /// The call `calls_first_unknown`, which returns the place.
 pub struct FirstUnknown;
 
-impl Call for FirstUnknown {
+impl Value for FirstUnknown {
     type Input = Table;
-    type Rooms = Room<u64>;
+    type Told = u64;
 
     const NAME: &'static str = "first unknown";
-    const NUMBERS: &'static [u32] = &[NONE];
     const INPUTS: u32 = 60_000;
     const MEASURED: usize = 1;
 
@@ -61,26 +58,16 @@ impl Call for FirstUnknown {
         none.chain(short).chain(long).map(Table::Own)
     }
 
-    fn rooms(_: &Table, _: &mut Random) -> Room<u64> {
-        Room::new(1)
-    }
-
     fn cases() -> Vec<Case<Table>> {
         by_share(|random, hall, not_up| Checked::sound(random, hall, not_up).table)
     }
 
-    fn ample_rooms() -> Room<u64> {
-        Room::new(1)
+    fn rattle(table: &Table) -> u64 {
+        rattle::first_unknown(table) as u64
     }
 
-    fn rattle(table: &Table, room: &mut Room<u64>) -> u32 {
-        let place = rattle::first_unknown(table) as u64;
-        told(NONE, &[place], room.lent())
-    }
-
-    fn peer(table: &Table, room: &mut Room<u64>) -> u32 {
-        let place = ports::first_unknown(table) as u64;
-        told(NONE, &[place], room.lent())
+    fn peer(table: &Table) -> u64 {
+        ports::first_unknown(table) as u64
     }
 }
 

@@ -3,13 +3,11 @@
 use peer::hall::Hall;
 use peer::ports::{self, UP};
 use peer::random::Random;
-use peer::refusal::NONE;
 
-use crate::compare::call::Call;
+use crate::compare::call::Value;
 use crate::compare::cases::{by_share, Case};
 use crate::compare::inputs::{any_uid, around};
 use crate::compare::numbers::{any_number, any_numbers_hall};
-use crate::compare::room::{told, Room};
 use crate::compare::tables::{any_codes, any_hall_table, light_hall, sound_hall_table, Table};
 use crate::rattle;
 
@@ -34,12 +32,11 @@ pub struct Input {
     port: u32,
 }
 
-impl Call for IsUp {
+impl Value for IsUp {
     type Input = Input;
-    type Rooms = Room<u32>;
+    type Told = bool;
 
     const NAME: &'static str = "is up";
-    const NUMBERS: &'static [u32] = &[NONE];
     const INPUTS: u32 = 60_000;
     const MEASURED: usize = 64;
 
@@ -57,26 +54,16 @@ impl Call for IsUp {
         codes.flat_map(|((length, place), code)| KS.map(|k| tried(length, place, code, k)))
     }
 
-    fn rooms(_: &Input, _: &mut Random) -> Room<u32> {
-        Room::new(1)
-    }
-
     fn cases() -> Vec<Case<Input>> {
         by_share(sound)
     }
 
-    fn ample_rooms() -> Room<u32> {
-        Room::new(1)
+    fn rattle(input: &Input) -> bool {
+        rattle::is_up(input.hall, &input.table, input.server, input.port)
     }
 
-    fn rattle(input: &Input, room: &mut Room<u32>) -> u32 {
-        let up = rattle::is_up(input.hall, &input.table, input.server, input.port);
-        told(NONE, &[u32::from(up)], room.lent())
-    }
-
-    fn peer(input: &Input, room: &mut Room<u32>) -> u32 {
-        let up = ports::is_up(input.hall, &input.table, input.server, input.port);
-        told(NONE, &[u32::from(up)], room.lent())
+    fn peer(input: &Input) -> bool {
+        ports::is_up(input.hall, &input.table, input.server, input.port)
     }
 }
 

@@ -1,7 +1,7 @@
 //! The calls that are compared and measured, a module each.
 //!
 //! To add a call: declare it in `rattle.rs`, with a pointer and a length for each slice, and wrap it there; write its module here,
-//! an `impl Call` like the others; add its line to `CALLS`.
+//! an `impl Call` like the others, or an `impl Value` where it returns a value and no refusal; add its line to `CALLS`.
 
 mod addresses_fit;
 mod broadcast;

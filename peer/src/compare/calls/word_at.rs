@@ -1,13 +1,11 @@
 //! The number in four bytes of a sheet, wherever they stand.
 
 use peer::random::Random;
-use peer::refusal::NONE;
 use peer::sheet;
 
 use super::sheet::SHEETS;
-use crate::compare::call::Call;
+use crate::compare::call::Value;
 use crate::compare::inputs::around;
-use crate::compare::room::{told, Room};
 use crate::compare::sheets::{any_sheet, edge_sheets, Sheet};
 use crate::rattle;
 
@@ -26,12 +24,11 @@ pub struct Input {
     at: usize,
 }
 
-impl Call for WordAt {
+impl Value for WordAt {
     type Input = Input;
-    type Rooms = Room<u32>;
+    type Told = u32;
 
     const NAME: &'static str = "word at";
-    const NUMBERS: &'static [u32] = &[NONE];
     const INPUTS: u32 = SHEETS;
 
     fn any(random: &mut Random) -> Input {
@@ -57,23 +54,11 @@ impl Call for WordAt {
         })
     }
 
-    fn rooms(_: &Input, _: &mut Random) -> Room<u32> {
-        Room::new(1)
+    fn rattle(input: &Input) -> u32 {
+        rattle::word_at(&input.sheet, input.at)
     }
 
-    fn ample_rooms() -> Room<u32> {
-        Room::new(1)
-    }
-
-    fn rattle(input: &Input, room: &mut Room<u32>) -> u32 {
-        told(
-            NONE,
-            &[rattle::word_at(&input.sheet, input.at)],
-            room.lent(),
-        )
-    }
-
-    fn peer(input: &Input, room: &mut Room<u32>) -> u32 {
-        told(NONE, &[sheet::word_at(&input.sheet, input.at)], room.lent())
+    fn peer(input: &Input) -> u32 {
+        sheet::word_at(&input.sheet, input.at)
     }
 }
