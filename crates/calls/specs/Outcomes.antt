@@ -1,4 +1,5 @@
--- Each answer as a refusal's number and its other values in order.
+-- Each answer about a hall, its routes and tables as a refusal's number and its other values in order.
+-- Sections "The hall and its numbers", "Route without failures" and "Port codes".
 use mathlib.Core.List.{List, [], _∷_}
 use Prim.Native.Nat.{ℕ}
 use Rattle.hall.specs.declared.Hall.{Hall}

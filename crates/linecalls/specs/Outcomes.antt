@@ -1,4 +1,5 @@
 -- What became of a packet, as the five numbers that its line tells before the uids.
+-- Section "The night sheet".
 use Prim.Native.Nat.{ℕ}
 use Rattle.report.specs.declared.PacketReport.{PacketReport}
 

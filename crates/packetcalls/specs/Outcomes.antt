@@ -1,4 +1,5 @@
 -- Each answer about a packet as a refusal's number and its other values in order.
+-- Sections "Local distance", "One forwarding step" and "Broadcast".
 use mathlib.Core.Bool.{not}
 use mathlib.Core.List.{[], _∷_}
 use Prim.Native.Nat.{ℕ}

@@ -1,4 +1,5 @@
 -- The numbers that tell the first link of a route above a level.
+-- Section "Route without failures".
 use Prim.Native.Nat.{ℕ}
 use Rattle.route.specs.declared.Crossing.{Crossing}
 use Rattle.route.specs.declared.Crossing.the-variants.{Link, Nothing}

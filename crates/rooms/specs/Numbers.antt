@@ -1,4 +1,5 @@
 -- What a caller outside of Rattle hands over number by number.
+-- Section "The hall and its numbers".
 use Prim.Native.Nat.{ℕ}
 use Rattle.hall.specs.declared.Hall.{Hall}
 

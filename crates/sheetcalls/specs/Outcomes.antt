@@ -1,4 +1,5 @@
 -- Each answer about a sheet as a refusal's number and its other values in order.
+-- Section "The night sheet".
 use mathlib.Core.List.{List, [], _∷_}
 use Prim.Native.Nat.{ℕ}
 use Rattle.hall.specs.Rooms.{Outcome}
