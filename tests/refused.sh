@@ -2,7 +2,8 @@
 # The wrong answers of crates/*/must-fail, function by function, once `rt ci` has tried the edits. An edit may hold one wrong answer in each of
 # several functions, a line `refused: FUNCTION` before each. The prover's log of the edit has to find fault with the proofs of exactly those functions,
 # for a fact that no longer holds; that a caller then rests on a refused function is no fault of its own. An edit of a constant, a definition or a
-# theorem names none, and is refused as a whole. The last line adds up the wrong answers.
+# theorem names no function but the place of its refusal, `refused at: FILE LAW`, or the file alone where it is the proof of a function: the log's first error
+# has to be there. The last line adds up the wrong answers.
 set -euo pipefail
 cd "$(dirname "$0")/.."
 
@@ -17,14 +18,20 @@ proofs_of() { # CRATE, FUNCTION.. on standard input
     done | sort -u
 }
 
+# The log's errors but for those that follow from another, a line each: the file and the law, which is left empty where the file does not parse.
+errors_of() { # CRATE LABEL LOG
+    sed -n -E "/was not admitted/d; s|^.*/must-fail/$1/$2/([^:]*):[0-9]+:[0-9]+: error: (\`([^\`]*)\`: )?.*|\1 \3|p" "$3"
+}
+
 # The folders of the proofs that the log finds fault with, and any other file that it does.
 refused_in() { # CRATE LABEL LOG
     {
-        grep ': error: ' "$3" | grep -v 'was not admitted' | sed -n -E "s|^.*/must-fail/$1/$2/([^:]*):[0-9]+:[0-9]+: error: .*|\1|p" | sed -E 's|^proofs/(.*)/Proof\.antt$|\1|'
-        sed -n -E "s/^fn $1::([a-z_0-9:]+): no proof.*/\1/p" "$3" | sed 's|::|/|g'
+        errors_of "$@" | cut -d ' ' -f 1 | sed -E 's|^proofs/(.*)/Proof\.antt$|\1|'
+        sed -n -E "s/^fn $1::([a-z_0-9:]+): no proof.*\`search\` does not close.*/\1/p" "$3" | sed 's|::|/|g'
     } | sort -u
 }
 
+shapes=$(grep -v '^#' tests/shapes.txt)
 passed=0
 failed=0
 fail() {
@@ -37,9 +44,19 @@ for edit in crates/*/must-fail/*.edit; do
     label=$(basename "$edit" .edit)
     log=target/must-fail/$crate/$label/.log
     [ -f "$log" ] || { fail "$log is missing: 'rt ci' writes it"; continue; }
-    ! grep -q 'has no `Need-' "$log" || { fail "$edit is refused for the shape of a proof, not for a fact"; continue; }
+    shape=$(grep -F -o -m 1 "$shapes" "$log" || true)
+    [ -z "$shape" ] || { fail "$edit is refused for the shape of a proof or a name, not for a fact: $log says '$shape'"; continue; }
+    errors=$(errors_of "$crate" "$label" "$log")
+    ! grep -q ' $' <<<"$errors" || { fail "$edit makes a file that does not parse"; continue; }
     named=$(sed -n 's/^refused: //p' "$edit")
-    [ -n "$named" ] || { passed=$((passed + 1)); continue; }
+    if [ -z "$named" ]; then
+        place=$(sed -n 's/^refused at: //p' "$edit")
+        first=${errors%%$'\n'*}
+        [ -n "$place" ] || { fail "$edit names neither a function nor the place of its refusal"; continue; }
+        [ "$place" = "$first" ] || [ "$place" = "${first% *}" ] || { fail "$edit is to be refused at $place, and is first refused at ${first:-no place}"; continue; }
+        passed=$((passed + 1))
+        continue
+    fi
     proofs=$(proofs_of "$crate" <<<"$named")
     refused=$(refused_in "$crate" "$label" "$log")
     [ "$proofs" = "$refused" ] || { fail "$edit names" $proofs "and the prover refuses" ${refused:-none}; continue; }
