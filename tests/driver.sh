@@ -47,13 +47,15 @@ done < <(sed -n 's/^static const char worked_[a-z_]*\[\] = "\(.*\)";$/\1/p' test
 # A constant made wrong on purpose, one at a time: the test passes with the right header and with none of these.
 mkdir "$folder/tried"
 passes() { # NAME VALUE WRONG
-    sed "s/^#define $1 $2u\$/#define $1 $3u/" "$header" >"$folder/tried/tbexlum.h"
-    gcc -std=c11 -DRANDOM_QUESTIONS=400u -I"$folder/tried" tests/driver_test.c "$library" -o "$folder/tried/test"
-    "$folder/tried/test" >/dev/null 2>&1
+    rm -f "$folder/tried/test"
+    sed "s/^#define $1 $2u\$/#define $1 $3u/" "$header" >"$folder/tried/tbexlum.h" &&
+        gcc -std=c11 -DRANDOM_QUESTIONS=400u -I"$folder/tried" tests/driver_test.c "$library" -o "$folder/tried/test" &&
+        "$folder/tried/test" >/dev/null 2>&1
 }
 passes TBEXLUM_ANSWERED 0 0 || fail "the test does not pass with the right header"
 while read -r name value; do
     if passes "$name" "$value" $((value + 1)); then fail "the test does not see a wrong $name"; fi
+    [ -x "$folder/tried/test" ] || fail "the test is not built with a wrong $name, so it has seen nothing"
 done < <(constants)
 echo "$(constants | wc -l) constants, each in the manual, each seen by the test when it is wrong"
 

@@ -28,7 +28,7 @@ expect() { # TEST STATUS TEXT ERROR COMMAND..
 }
 
 # The bytes of a file with its last newline kept, which $(..) alone would take away.
-whole() { cat "$1"; printf x; }
+whole() { cat "$1" && printf x; }
 small=$(whole examples/small.expected); small=${small%x}
 large=$(whole examples/large.expected); large=${large%x}
 refused=$(whole examples/unknown-code.expected); refused=${refused%x}
@@ -82,7 +82,7 @@ if command -v dash >/dev/null 2>&1; then
     expect "the command under dash" 1 "$small$refused" "$told" dash bin/trace examples/small.sheet examples/unknown-code.sheet
 fi
 
-usage=$("$command" --help; printf x); usage=${usage%x}
+usage=$("$command" --help && printf x); usage=${usage%x}
 expect "the usage, asked for" 0 "$usage" "" "$command" -h
 expect "an unknown option" 2 "" "trace: --all: no such option"$'\n'"$usage" "$command" --all
 
