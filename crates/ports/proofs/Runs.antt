@@ -10,7 +10,7 @@ use lib.Dec.{eqb, leb, ltb}
 use lib.Arith.{digits-lt}
 use lib.ListN.{length, getD, take, drop, length-take, length-drop, List·getD-eq-default}
 use lib.Seq.{getD-take, getD-drop}
-use borrow.Author.Tests.{eqb-true, eq-eqb, ltb-true, ltb-false}
+use borrow.Author.Tests.{eqb-true, eq-eqb, ltb-true, ltb-false, le-leb}
 use Rattle.combine.specs.Tests.{pick, both, either}
 use Rattle.combine.proofs.Tests.{cases, both-ways}
 use Rattle.hall.specs.declared.Hall.{Hall}
@@ -36,10 +36,10 @@ run-up h table i u x p b l =
     let c : ℕ = cell (h .n) i u in
     let T : ℕ = t (h .n) i in
     let e : c * (T * (h .k + 1)) + (x * (h .k + 1) + p) ≡ (c * T + x) * (h .k + 1) + p = omega arith in
-    ap (λ (code : ℕ). eqb code 1)
+    rw (le-leb p (h .k) l) (ap (λ (code : ℕ). eqb code 1)
     (getD-take {A = ℕ} (T * (h .k + 1)) (drop (c * (T * (h .k + 1))) table) (x * (h .k + 1) + p) 0 (digits-lt b q)
     ∙ getD-drop {A = ℕ} (c * (T * (h .k + 1))) table (x * (h .k + 1) + p) 0
-    ∙ ap (λ (at : ℕ). getD table at 0) e)
+    ∙ ap (λ (at : ℕ). getD table at 0) e))
 
 -- the part's byte for a server is the hall table's
 pub part-up : (h : Hall) (table : List ℕ) (i u p : ℕ) → 0 < h .n → p ≤ h .k → up h (run h table i u) (u % t (h .n) i) p ≡ up h table u p
@@ -125,7 +125,7 @@ pub every-up : (h : Hall) (table : List ℕ) (count : ℕ) → EveryUp table →
 unfolding EveryUp up codeOf
 every-up h table count a long x p b l =
     let q : p < h .k + 1 = omega arith in
-    eq-eqb (getD table (x * (h .k + 1) + p) 0) 1 (a (x * (h .k + 1) + p) (omega (arith, digits-lt b q)))
+    rw (le-leb p (h .k) l) (eq-eqb (getD table (x * (h .k + 1) + p) 0) 1 (a (x * (h .k + 1) + p) (omega (arith, digits-lt b q))))
 
 -- and every link of level at most l is usable
 pub joined-every : (h : Hall) (table : List ℕ) (count : ℕ) → EveryUp table → length table ≡ count * (h .k + 1) → (l x y : ℕ) → l ≤ h .k → x < count → y < count

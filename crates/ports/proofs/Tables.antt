@@ -9,7 +9,7 @@ use native.Mathlib.Omega.{arith}
 use lib.Dec.{eqb, leb}
 use lib.ListN.{length, getD, take, drop, length-drop, drop-of-length-le}
 use lib.Seq.{drop-cons, drop-drop}
-use borrow.Author.Tests.{eqb-true, eq-eqb, leb-true, le-leb}
+use borrow.Author.Tests.{eqb-true, eq-eqb, leb-true, le-leb, lt-leb}
 use Rattle.combine.specs.Tests.{pick, both}
 use Rattle.combine.proofs.Tests.{cases, never, both-left, both-right, both-true, both-false}
 use Rattle.hall.specs.declared.Hall.{Hall}
@@ -27,7 +27,12 @@ one-is-up h table server port e = eq-eqb (codeOf h table server port) 1 e
 -- two tables with code 1 at the same places have the same ports up
 pub up-agrees : (h : Hall) (a b : List ℕ) → SameUps a b → (server port : ℕ) → up h a server port ≡ up h b server port
 unfolding SameUps up codeOf
-up-agrees h a b s server port = s (server * (h .k + 1) + port)
+up-agrees h a b s server port = cases (leb port (h .k)) (λ e. rw e (s (server * (h .k + 1) + port))) (λ e. rw e)
+
+-- a port above k is not up, whatever byte stands where it would be
+pub above-not-up : (h : Hall) (table : List ℕ) (server port : ℕ) → h .k < port → up h table server port ≡ false
+unfolding up codeOf
+above-not-up h table server port l = rw (lt-leb port (h .k) l)
 
 -- the first unknown code of a table, from each place that is reached: a known code is passed, an unknown one is the first
 pub unknown-start : (table : List ℕ) → 0 + firstUnknown (drop 0 table) ≡ firstUnknown table
@@ -133,6 +138,12 @@ pub each-known : (table : List ℕ) → ((i : ℕ) → i < length table → know
 unfolding allKnown
 each-known [] h = refl
 each-known (code ∷ codes) h = both-true (known code) (allKnown codes) (h 0 (omega arith)) (each-known codes (λ i l. h (suc i) (omega arith)))
+
+-- the check looks no further than the table
+pub first-within : (table : List ℕ) → firstUnknown table ≤ length table
+unfolding firstUnknown
+first-within [] = omega arith
+first-within (code ∷ codes) = cases (known code) (λ e. rw e (omega (arith, first-within codes))) (λ e. rw e (omega arith))
 
 -- the code that the check tells is unknown, and each before it is known
 pub first-is-unknown : (table : List ℕ) → firstUnknown table < length table → known (getD table (firstUnknown table) 0) ≡ false

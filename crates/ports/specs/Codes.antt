@@ -44,9 +44,10 @@ unfoldable pub firstUnknown : List ℕ → ℕ
 firstUnknown [] = 0
 firstUnknown (code ∷ codes) = pick (known code) (suc (firstUnknown codes)) 0
 
--- port i of server u is byte u(k+1) + i; a byte that the table has not is no port. In the table of a DCell the server is its place there
+-- port i of server u is byte u(k+1) + i; a server has the ports 0 to k, and a byte that the table has not is no port. In the table of a
+-- DCell the server is its place there
 unfoldable pub codeOf : Hall → List ℕ → ℕ → ℕ → ℕ
-codeOf h table server port = getD table (server * (h .k + 1) + port) not-fitted
+codeOf h table server port = pick (leb port (h .k)) (getD table (server * (h .k + 1) + port) not-fitted) not-fitted
 
 -- only code 1 counts as up
 unfoldable pub up : Hall → List ℕ → ℕ → ℕ → Bool

@@ -36,6 +36,11 @@ port-up : up hall (table 2) 3 0 ≡ true
 unfolding up codeOf hall table
 port-up = refl
 
+-- k is 1: a server has no port 2, though the byte there, port 0 of the next server, is 1
+no-such-port : up hall (table 2) 0 2 ≡ false
+unfolding up codeOf hall table
+no-such-port = refl
+
 -- the one cable between the cells 0 and 4 is 3-16: not usable here; 0-4 is
 cable-down : joined hall (table 2) 1 3 16 ≡ false
 unfolding joined onSwitch bothUp same neighbour cell t up codeOf hall table
@@ -45,14 +50,10 @@ cable-up : joined hall (table 2) 1 0 4 ≡ true
 unfolding joined onSwitch bothUp same neighbour cell t up codeOf hall table
 cable-up = refl
 
--- the check takes 2, and tells 7 at its first byte
+-- the check takes 2
 check-known : checkOf hall (table 2) ≡ record { refusal = 0; place = 0 }
 unfolding refusal valid nFits kFits bFits tableLength servers t known allKnown firstUnknown hall table
 check-known = refl
-
-check-unknown : checkOf hall (table 7) ≡ record { refusal = 5; place = 7 }
-unfolding refusal valid nFits kFits bFits tableLength servers t known allKnown firstUnknown hall table
-check-unknown = refl
 
 -- the part for server 17 is that of its switch: servers 16 to 19, the bytes 32 to 39
 part-of-seventeen : partOf hall (table 2) 17 ≡ 1 ∷ 2 ∷ 1 ∷ 1 ∷ 1 ∷ 1 ∷ 1 ∷ 1 ∷ []

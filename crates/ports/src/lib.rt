@@ -28,10 +28,13 @@ pub struct TableCheck {
     pub place: u32,
 }
 
-// Whether a port is up: of a server by its uid in a hall table, by its place in the table of a DCell.
+// Whether a port is up: of a server by its uid in a hall table, by its place in the table of a DCell. A port above k is not.
 pub fn is_up(h: Hall, table: &[u8], server: u32, port: u32) -> bool
     ensures { λ r. ⌜ r ≡ up h (now (table .entry)) server port ⌝ }
 {
+    if h.k < port {
+        return false;
+    }
     let at = (server as usize) * ((h.k as usize) + 1) + (port as usize);
     if at < table.len() {
         table[at] == UP
