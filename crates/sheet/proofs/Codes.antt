@@ -1,6 +1,6 @@
--- Laws of a hall table whose bytes are all there: what reading it answers, by where its first unknown code stands.
+-- Laws of a hall table whose bytes are all there: reading it goes on as if begun behind codes that are known.
 use mathlib.Core.Path.{_≡_, sym, _∙_, ap}
-use mathlib.Core.Bool.{true, false}
+use mathlib.Core.Bool.{true}
 use mathlib.Core.List.{List}
 use Prim.Native.Nat.{ℕ, _+_, _-_, _*_, _≤_, _<_}
 use native.Mathlib.Omega.{arith}
@@ -8,11 +8,11 @@ use lib.ListN.{length, getD, take, drop, length-drop}
 use lib.Seq.{getD-take, getD-drop, length-take-le}
 use Rattle.hall.specs.Refusals.{bad-code}
 use Rattle.ports.specs.Codes.{known, firstUnknown}
-use Rattle.ports.proofs.Tables.{known-before, first-is-unknown}
-use Rattle.sheet.specs.declared.Field.the-variants.{Value, Refused}
-use Rattle.sheet.specs.Formats.{done, value, read}
+use Rattle.ports.proofs.Tables.{known-before, first-within}
+use Rattle.sheet.specs.declared.Field.the-variants.{Value}
+use Rattle.sheet.specs.Formats.{value, read}
 use Rattle.sheet.specs.Sheets.{code, codes}
-use Rattle.sheet.proofs.Reading.{read-wrong, field-read, field-sound, value-one, times-none, times-stop}
+use Rattle.sheet.proofs.Reading.{field-read, field-sound, value-one}
 use Rattle.sheet.proofs.Accepted.{times-past}
 
 -- a code takes one byte
@@ -32,7 +32,7 @@ module _ (s : List ℕ) (at so-many : ℕ) (there : at + so-many ≤ length s) w
   part-code i h = getD-take so-many (drop at s) i 0 h ∙ getD-drop at s i 0 ∙ sym (value-one s (at + i))
 
   -- the codes before the first unknown one are passed
-  codes-past : (i rest : ℕ) → i + rest ≡ so-many → i ≤ firstUnknown part → read (codes so-many) s at ≡ read (codes rest) s (at + i)
+  pub codes-past : (i rest : ℕ) → i + rest ≡ so-many → i ≤ firstUnknown part → read (codes so-many) s at ≡ read (codes rest) s (at + i)
   codes-past i rest e h =
       let w : at + 1 * i ≡ at + i = omega arith in
       ap (λ (n : ℕ). read (codes n) s at) (sym e)
@@ -42,15 +42,11 @@ module _ (s : List ℕ) (at so-many : ℕ) (there : at + so-many ≤ length s) w
       (value s (at + j) 1, at + j + 1, rw z (field-sound 1 known bad-code s (at + j) (omega arith) k)))
       ∙ ap (λ (m : ℕ). read (codes rest) s m) w
 
-  module _ (place : ℕ) (found : place ≡ firstUnknown part) where
-    -- all are known
-    pub codes-known : so-many ≤ place → Value 0 (at + so-many) ≡ read (codes so-many) s at
-    codes-known h = times-none code s (at + so-many) ∙ sym (codes-past so-many 0 (omega arith) (omega arith))
-
-    -- the first unknown one is told
-    pub codes-unknown : place < so-many → Refused bad-code (at + place) ≡ read (codes so-many) s at
-    codes-unknown h =
-        let l = part-long in
-        let k : known (value s (at + place) 1) ≡ false = rw (← part-code place h, found) (first-is-unknown part (omega arith)) in
-        sym (codes-past place (so-many - place) (omega arith) (omega arith)
-        ∙ times-stop code s (at + place) (so-many - place) bad-code (at + place) (omega arith) (read-wrong s 1 known bad-code done (at + place) (omega arith) k))
+  -- so reading may begin at the first unknown code, or behind the last
+  pub codes-ahead : (place : ℕ) → place ≡ firstUnknown part
+      → (place ≤ so-many) × (at + place ≤ length s) × (read (codes (so-many - place)) s (at + place) ≡ read (codes so-many) s at)
+  codes-ahead place found =
+      let l = part-long in
+      let w = first-within part in
+      let q : place ≤ so-many = omega arith in
+      (q, omega arith, sym (codes-past place (so-many - place) (omega arith) (omega arith)))

@@ -22,10 +22,6 @@ accepted : sheetOf (sheetWith 2 []) ≡ record { refusal = 0; place = 0; n = 4; 
 unfolding sheetOf sheetWith nightSheet tablesOf times packet read and-then value nFits kFits bFits tableLength servers t known
 accepted = refl
 
-unknown-code : sheetOf (sheetWith 7 []) ≡ refusedAt 5 18
-unfolding sheetOf sheetWith nightSheet tablesOf times packet read and-then value nFits kFits bFits tableLength servers t known
-unknown-code = refl
-
 surplus : sheetOf (sheetWith 2 (0 ∷ [])) ≡ refusedAt 10 65
 unfolding sheetOf sheetWith nightSheet tablesOf times packet read and-then value nFits kFits bFits tableLength servers t known
 surplus = refl

@@ -1,7 +1,7 @@
 // The read of each section of a sheet, and of the whole: the first field that is refused decides.
 ghost use mathlib.Core.Path.{_≡_};
 ghost use mathlib.Core.Bool.{true};
-ghost use Prim.Native.Nat.{_+_, _≤_};
+ghost use Prim.Native.Nat.{_+_, _-_, _≤_};
 ghost use lib.ListN.{length};
 ghost use Rattle.hall.specs.Halls.{valid};
 ghost use Rattle.sheet.specs.Formats.{read};
@@ -17,15 +17,29 @@ use crate::fields::read_retry;
 use crate::fields::read_uid;
 use crate::fields::read_word;
 use hall::Hall;
-use hall::refusals::BAD_CODE;
 
-// The hall table of so many bytes, one code after the other: for a sheet that is cut within it.
-fn read_cut_codes(sheet: &[u8], at: usize, count: u32) -> Field
+// How many codes from a place on are known for sure, so that reading may go on behind them: where so many bytes are there, many codes are
+// looked at together.
+fn known_codes(sheet: &[u8], at: usize, count: u32) -> usize
+    requires { ⌜ (at ≤ length (now sheet)) × (length (now sheet) ≤ longest) ⌝ }
+    ensures { λ r. ⌜ (r ≤ count) × (at + r ≤ length (now (sheet .entry))) × (read (codes (count - r)) (now (sheet .entry)) (at + r) ≡ read (codes count) (now (sheet .entry)) at) ⌝ }
+{
+    let bytes = count as usize;
+    if sheet.len() - at < bytes {
+        return 0;
+    }
+    let end = at + bytes;
+    ports::first_unknown(&sheet[at..end])
+}
+
+// The hall table of so many bytes, one code after the other.
+fn read_codes(sheet: &[u8], at: usize, count: u32) -> Field
     requires { ⌜ (at ≤ length (now sheet)) × (length (now sheet) ≤ longest) ⌝ }
     ensures { λ r. ⌜ r ≡ read (codes count) (now (sheet .entry)) at ⌝ }
 {
-    let mut next = at;
-    let mut left = count;
+    let known = known_codes(sheet, at, count);
+    let mut next = at + known;
+    let mut left = count - known as u32;
     while 0 < left {
         let code = read_code(sheet, next);
         let Field::Value(_, behind) = code else {
@@ -35,23 +49,6 @@ fn read_cut_codes(sheet: &[u8], at: usize, count: u32) -> Field
         left -= 1;
     }
     Field::Value(0, next)
-}
-
-// The hall table of so many bytes: where all are there, many codes are looked at together.
-fn read_codes(sheet: &[u8], at: usize, count: u32) -> Field
-    requires { ⌜ (at ≤ length (now sheet)) × (length (now sheet) ≤ longest) ⌝ }
-    ensures { λ r. ⌜ r ≡ read (codes count) (now (sheet .entry)) at ⌝ }
-{
-    let bytes = count as usize;
-    if sheet.len() - at < bytes {
-        return read_cut_codes(sheet, at, count);
-    }
-    let end = at + bytes;
-    let place = ports::first_unknown(&sheet[at..end]);
-    if place < bytes {
-        return Field::Refused(BAD_CODE, (at + place) as u32);
-    }
-    Field::Value(0, end)
 }
 
 // A packet, whose uids have to be below the limit.

@@ -1,69 +1,90 @@
--- `sheet::sections::read_codes` meets its contract: where all bytes are there, the first unknown code of that part decides.
-use mathlib.Core.Path.{_≡_}
-use Prim.Native.Nat.{_+_, _-_}
+-- `sheet::sections::read_codes` meets its contract: what is left to read from the next place on is what the whole reads from the first.
+use mathlib.Core.Path.{_≡_, sym, _∙_}
+use Prim.Native.Nat.{_≤_}
 use native.Mathlib.Omega.{arith}
 use borrow.Author.Needs.{needs}
-use Rattle.sheet.proofs.Codes.{codes-known, codes-unknown}
+use lib.ListN.{length}
+use Rattle.sheet.specs.Formats.{read}
+use Rattle.sheet.specs.Sheets.{code, times}
+use Rattle.sheet.proofs.Reading.{times-none, times-more, times-stop, next-within}
 use Rattle.sheet.proofs.sections.read_codes.Statement.{statement}
 use Rattle.sheet.proofs.sections.read_codes.Tie as tie
 
-sub-if1 : tie.Need-sub-if1
-sub-if1 c = search needs
+abbrev Inv-loop : tie.InvT-loop
+Inv-loop sheet at count known next₀ left₀ next left =
+    (next ≤ length sheet) × (read (times left code) sheet next ≡ read (times count code) sheet at)
 
-read-cut-codes-requires : tie.Need-read-cut-codes-requires
-read-cut-codes-requires c κs = search needs
+abbrev μ-loop : tie.MeasureT-loop
+μ-loop sheet at count known next₀ left₀ next left = left
 
-returns : tie.Need-returns
-returns c = search needs
+known-codes-requires : tie.Need-known-codes-requires Inv-loop μ-loop
+known-codes-requires c κs = search needs
 
-add-end : tie.Need-add-end
-add-end c = search needs
+add-next : tie.Need-add-next Inv-loop μ-loop
+add-next c = omega (arith, c .known-codes .ensures .1)
 
-sub-first-unknown : tie.Need-sub-first-unknown
-sub-first-unknown c = search needs
+cast-left : tie.Need-cast-left Inv-loop μ-loop
+cast-left c = omega (arith, c .known-codes .ensures .0)
 
-part-first-unknown-start : tie.Need-part-first-unknown-start
-part-first-unknown-start c = search needs
+sub-left : tie.Need-sub-left Inv-loop μ-loop
+sub-left c = omega (arith, c .known-codes .ensures .0)
 
-part-first-unknown-end : tie.Need-part-first-unknown-end
-part-first-unknown-end c = search needs
+loop-holds : tie.Need-loop-holds Inv-loop μ-loop
+loop-holds c = (c .known-codes .ensures .1, c .known-codes .ensures .2)
 
-first-unknown-requires : tie.Need-first-unknown-requires
-first-unknown-requires c κs = search needs
+read-code-requires : tie.Need-read-code-requires Inv-loop μ-loop
+read-code-requires c κs = (omega arith, omega arith)
 
-add-t13 : tie.Need-add-t13
-add-t13 c = search needs
+enum-known-code : tie.Need-enum-known-code Inv-loop μ-loop
+enum-known-code c = search needs
 
-cast-t14 : tie.Need-cast-t14
-cast-t14 c = search needs
+enum-told : tie.Need-enum-told Inv-loop μ-loop
+enum-told c = search needs
 
-returns-2 : tie.Need-returns-2
+returns : tie.Need-returns Inv-loop μ-loop
+returns c =
+    let l = c .before .before .before .before .loop in
+    let e = c .enum-told .given .1 in
+    let f = c .before .before .read-code .ensures in
+    e ∙ sym (times-stop code _ (l .next) (l .left) _ _ (c .before .before .before .loop-test .taken) (sym f ∙ e)) ∙ l .inv .1
+
+sub-left-2 : tie.Need-sub-left-2 Inv-loop μ-loop
+sub-left-2 c = omega arith
+
+loop-less : tie.Need-loop-less Inv-loop μ-loop
+loop-less c = omega arith
+
+loop-again : tie.Need-loop-again Inv-loop μ-loop
+loop-again c =
+    let l = c .before .before .before .before .before .loop in
+    let e = c .before .code .given .1 in
+    let f = c .before .before .before .read-code in (
+      next-within code _ (l .next) _ _ (f .result) (f .ensures) e (l .inv .0),
+      sym (times-more code _ (l .next) (l .left) _ _ (c .before .before .before .before .loop-test .taken) (sym (f .ensures) ∙ e)) ∙ l .inv .1,
+    )
+
+returns-2 : tie.Need-returns-2 Inv-loop μ-loop
 returns-2 c =
-    let a = c .before .before .before .before .before .args in
-    let f = c .before .first-unknown in
-    let d : a .at + a .count - a .at ≡ a .count = omega arith in
-    codes-unknown (a .sheet .now) (a .at) (a .count) (omega arith) (f .result) (rw d at (f .ensures)) (c .if2 .taken)
-
-returns-3 : tie.Need-returns-3
-returns-3 c =
-    let a = c .before .before .before .before .before .args in
-    let f = c .before .first-unknown in
-    let d : a .at + a .count - a .at ≡ a .count = omega arith in
-    codes-known (a .sheet .now) (a .at) (a .count) (omega arith) (f .result) (rw d at (f .ensures)) (c .if2 .left)
+    let l = c .before .loop in
+    let z : l .left ≡ 0 = omega arith in
+    times-none code _ (l .next) ∙ rw z at (l .inv .1)
 
 pub read-codes-spec : {M : Type 1} → statement M
 read-codes-spec =
     tie.close
     (tie.spec
-    sub-if1
-    read-cut-codes-requires
+    Inv-loop
+    μ-loop
+    known-codes-requires
+    add-next
+    cast-left
+    sub-left
+    loop-holds
+    read-code-requires
+    enum-known-code
+    enum-told
     returns
-    add-end
-    sub-first-unknown
-    part-first-unknown-start
-    part-first-unknown-end
-    first-unknown-requires
-    add-t13
-    cast-t14
-    returns-2
-    returns-3)
+    sub-left-2
+    loop-less
+    loop-again
+    returns-2)
