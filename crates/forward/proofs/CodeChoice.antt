@@ -1,16 +1,17 @@
--- The search for a proxy, place by place and level by level: the best so far with its distance is all that a loop has to keep.
+-- The search for a proxy by level, then distance, then uid: the first that it meets is the choice.
 use mathlib.Core.Path.{_≡_, refl, sym, _∙_, ap}
-use mathlib.Core.Bool.{Bool, true, false, not}
+use mathlib.Core.Bool.{Bool, true, false, not, false≢true}
 use mathlib.Core.List.{List}
 use mathlib.Core.Logic.{⊎-elim}
 use Prim.Native.Nat.{ℕ, zero, suc, _+_, _-_, _<_, _≤_}
+use native.Mathlib.Nat.{eq-or-lt-of-le}
 use native.Mathlib.Numerals.{add-one}
 use native.Mathlib.Omega.{arith}
 use lib.Dec.{eqb, ltb}
 use lib.ListN.{length, getD}
-use borrow.Author.Tests.{eq-eqb, ne-eqb, lt-ltb, le-ltb, ltb-true, ltb-false, eqb-true, eqb-false}
-use Rattle.combine.specs.Tests.{pick, both}
-use Rattle.combine.proofs.Tests.{cases, pick-same}
+use borrow.Author.Tests.{eq-eqb, ne-eqb, lt-ltb, ltb-true, ltb-false, eqb-true, eqb-false}
+use Rattle.combine.specs.Tests.{both}
+use Rattle.combine.proofs.Tests.{cases, never, both-left, both-right, both-true}
 use Rattle.hall.specs.declared.Hall.{Hall}
 use Rattle.hall.specs.Refusals.{refusal}
 use Rattle.hall.specs.Halls.{servers}
@@ -25,61 +26,85 @@ use Rattle.local.proofs.Sizes.{size-fits, place-fits}
 use Rattle.forward.specs.declared.Candidate.{Candidate}
 use Rattle.forward.specs.declared.Candidate.the-variants.{At, Nothing}
 use Rattle.forward.specs.Seen.{Seen, seen}
-use Rattle.forward.specs.Proxies.{isCandidate, nearerOf, bestBelow, orElse, firstFound, choice}
+use Rattle.forward.specs.Proxies.{isCandidate, bestBelow, orElse, firstFound, choice}
 use Rattle.forward.specs.Inside.{Here}
+use Rattle.forward.proofs.Chosen.{Nearest, Best, found, missing, best-found}
 
--- the distance of the best so far, none where there is none
-abbrev pub leastOf : (ℕ → ℕ) → Candidate → ℕ
-leastOf d Nothing = none
-leastOf d (At p i) = d p
+-- the first that a search by distance and then by uid meets is the best of its level
+module _ (s : Seen) (me i count : ℕ) where
+  one-nearest : (p q : ℕ) → Nearest s me i count p → Nearest s me i count q → q ≡ p
+  one-nearest p q n m =
+      let a = n .nearest q (m .below) (m .candidate) in
+      let b = m .nearest p (n .below) (n .candidate) in
+      cases (ltb q p)
+      (λ e. absurd (omega (arith, n .lowest q (ltb-true q p e) (m .candidate))))
+      (λ e. ⊎-elim (λ (r : p ≡ q). sym r) (λ (l : p < q). absurd (omega (arith, m .lowest p l (n .candidate)))) (eq-or-lt-of-le (ltb-false q p e)))
 
-not-none : (d : ℕ) → d ≤ none → not (eqb d none) ≡ ltb d none
-not-none d l =
-    cases (eqb d none)
-    (λ e. let q = eqb-true d none e in rw e (sym (le-ltb d none (omega arith))))
-    (λ e. let q = eqb-false d none e in rw e (sym (lt-ltb d none (omega arith))))
+  pub nearest-best : (p : ℕ) → Nearest s me i count p → bestBelow s me i count ≡ At p i
+  nearest-best p n = go (bestBelow s me i count) (best-found s me i count)
+    where
+      go : (b : Candidate) → Best s me i count b → b ≡ At p i
+      go (At q j) (found m) = ap (λ (v : ℕ). At v i) (one-nearest p q n m)
+      go Nothing (missing none) = never (n .candidate) (none p (n .below))
 
-module _ (s : Seen) (me i p : ℕ) (least : s .distance me p ≤ none) where
-  one-more : (b : Candidate) → leastOf (s .distance me) b ≤ none
-      → pick (both (not (eqb (s .distance me p) none)) (s .usable i p)) (nearerOf s me i b p) b
-      ≡ pick (both (ltb (s .distance me p) (leastOf (s .distance me) b)) (s .usable i p)) (At p i) b
-  one-more Nothing l = rw (not-none (s .distance me p) least)
-  one-more (At q j) l =
-      cases (ltb (s .distance me p) (s .distance me q))
-      (λ e.
-      let k = ltb-true (s .distance me p) (s .distance me q) e in
-      let n : ltb (s .distance me p) none ≡ true = lt-ltb (s .distance me p) none (omega arith) in
-      rw (e, not-none (s .distance me p) least, n))
-      (λ e. rw e (pick-same (both (not (eqb (s .distance me p) none)) (s .usable i p)) (At q j)))
+  pub none-best : ((q : ℕ) → q < count → isCandidate s me i q ≡ false) → bestBelow s me i count ≡ Nothing
+  none-best f = go (bestBelow s me i count) (best-found s me i count)
+    where
+      go : (b : Candidate) → Best s me i count b → b ≡ Nothing
+      go (At q j) (found m) = never (m .candidate) (f q (m .below))
+      go Nothing (missing none) = refl
 
-  module _ (best : Candidate) (is : best ≡ bestBelow s me i p) (bound : leastOf (s .distance me) best ≤ none) where
-    best-more : bestBelow s me i (p + 1) ≡ pick (both (ltb (s .distance me p) (leastOf (s .distance me) best)) (s .usable i p)) (At p i) best
-    unfolding bestBelow isCandidate
-    best-more = rw (add-one p, ← is) (one-more best bound)
+-- one look at a place, by its distance x, for a candidate at distance d
+module _ (s : Seen) (me i p d : ℕ) (small : d < none) (x : ℕ) (xs : x ≡ s .distance me p) (t : Bool) (ts : t ≡ both (eqb x d) (s .usable i p)) where
+  pub look-finds : t ≡ true → (isCandidate s me i p ≡ true) × (s .distance me p ≡ d)
+  unfolding isCandidate
+  look-finds e =
+      let w = sym ts ∙ e in
+      let q : s .distance me p ≡ d = sym xs ∙ eqb-true x d (both-left (eqb x d) (s .usable i p) w) in
+      let n : eqb (s .distance me p) none ≡ false = ne-eqb (s .distance me p) none (λ z. omega arith) in
+      (rw n (both-right (eqb x d) (s .usable i p) w), q)
 
-    -- a nearer candidate is the best from then on
-    pub best-nearer : both (ltb (s .distance me p) (leastOf (s .distance me) best)) (s .usable i p) ≡ true → At p i ≡ bestBelow s me i (p + 1)
-    best-nearer e = sym (best-more ∙ rw e)
+  pub look-passes : t ≡ false → isCandidate s me i p ≡ true → d ≤ s .distance me p → d < s .distance me p
+  unfolding isCandidate
+  look-passes e c l =
+      let u = both-right (not (eqb (s .distance me p) none)) (s .usable i p) c in
+      cases (eqb x d)
+      (λ q. never (both-true (eqb x d) (s .usable i p) q u) (sym ts ∙ e))
+      (λ q. let n = eqb-false x d q in ⊎-elim (λ (z : d ≡ s .distance me p). absurd (n (xs ∙ sym z))) (λ z. z) (eq-or-lt-of-le l))
 
-    pub best-kept : both (ltb (s .distance me p) (leastOf (s .distance me) best)) (s .usable i p) ≡ false → best ≡ bestBelow s me i (p + 1)
-    best-kept e = sym (best-more ∙ rw e)
+-- a candidate is at a distance
+pub candidate-distance : (s : Seen) (me i p : ℕ) → isCandidate s me i p ≡ true → s .distance me p ≡ none → ⊥
+unfolding isCandidate
+candidate-distance s me i p c e =
+    let w = both-left (not (eqb (s .distance me p) none)) (s .usable i p) c in
+    let v : not true ≡ true = rw (eq-eqb (s .distance me p) none e) at w in
+    false≢true v
 
--- one turn of the loop over the places
-module _ (s : Seen) (me i p : ℕ) (near : s .distance me p ≤ none) (best : Candidate) (is : best ≡ bestBelow s me i p)
-    (least : ℕ) (ls : least ≡ leastOf (s .distance me) best) (small : least ≤ none) (x : ℕ) (xs : x ≡ s .distance me p)
-    (t : Bool) (ts : t ≡ both (ltb x least) (s .usable i p)) where
-  tested : t ≡ both (ltb (s .distance me p) (leastOf (s .distance me) best)) (s .usable i p)
-  tested = ts ∙ rw (xs, ls)
+-- no candidate at distance d among the first places: one place more
+pub passed-more : (s : Seen) (me i d place : ℕ) → ((q : ℕ) → q < place → isCandidate s me i q ≡ true → d < s .distance me q)
+    → (isCandidate s me i place ≡ true → d < s .distance me place)
+    → (q : ℕ) → q < place + 1 → isCandidate s me i q ≡ true → d < s .distance me q
+passed-more s me i d place before here q l w =
+    ⊎-elim (λ (e : q ≡ place). rw e (here (rw e at w))) (λ (k : q < place). before q k w) (eq-or-lt-of-le {n = q} {m = place} (omega arith))
 
-  pub turn-nearer : t ≡ true → At p i ≡ bestBelow s me i (p + 1)
-  turn-nearer e = best-nearer s me i p near best is (rw ls at small) (sym tested ∙ e)
+-- behind the greatest distance there is no candidate
+pub none-behind : (s : Seen) (me i q last d x : ℕ) → x ≡ s .distance me q → s .distance me q ≤ none → (x < none → x ≤ last) → last < d
+    → (isCandidate s me i q ≡ true → d ≤ s .distance me q) → isCandidate s me i q ≡ false
+none-behind s me i q last d x e small far l low =
+    cases (isCandidate s me i q)
+    (λ w.
+    let a = low w in
+    ⊎-elim (λ (z : s .distance me q ≡ none). absurd (candidate-distance s me i q w z))
+    (λ (z : s .distance me q < none). let b = far (omega arith) in absurd (omega arith))
+    (eq-or-lt-of-le small))
+    (λ w. w)
 
-  pub turn-kept : t ≡ false → best ≡ bestBelow s me i (p + 1)
-  turn-kept e = best-kept s me i p near best is (rw ls at small) (sym tested ∙ e)
-
-pub best-none : (s : Seen) (me i : ℕ) → Nothing ≡ bestBelow s me i 0
-unfolding bestBelow
-best-none s me i = refl
+-- the greatest of one place more
+pub within-more : (distance : List ℕ) (place most more : ℕ) → most ≤ more → (getD distance place 0 < none → getD distance place 0 ≤ more)
+    → ((q : ℕ) → q < place → getD distance q 0 < none → getD distance q 0 ≤ most)
+    → (q : ℕ) → q < place + 1 → getD distance q 0 < none → getD distance q 0 ≤ more
+within-more distance place most more l here before q b w =
+    ⊎-elim (λ (e : q ≡ place). rw e (here (rw e at w))) (λ (k : q < place). omega (arith, before q k w)) (eq-or-lt-of-le {n = q} {m = place} (omega arith))
 
 -- a search that goes up by one level: what is left of it
 module _ (find : ℕ → Candidate) (n l : ℕ) where

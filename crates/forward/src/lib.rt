@@ -4,14 +4,14 @@ pub mod endings;
 ghost use mathlib.Core.Path.{_≡_};
 ghost use mathlib.Core.Bool.{true, not};
 ghost use mathlib.Core.List.{_∷_};
-ghost use Prim.Native.Nat.{_+_, _-_, _≤_, _<_};
+ghost use Prim.Native.Nat.{ℕ, _+_, _-_, _≤_, _<_};
 ghost use lib.Dec.{eqb, ltb};
-ghost use lib.ListN.{length, replicate};
+ghost use lib.ListN.{length, getD, replicate};
 ghost use Rattle.combine.specs.Tests.{pick, both, either};
 ghost use Rattle.hall.specs.Cells.{same, neighbour};
 ghost use Rattle.hall.specs.Halls.{valid, asksHall};
 ghost use Rattle.hall.specs.Refusals.{refusal, bad-length};
-ghost use Rattle.local.specs.Local.{cellSize, placeOf, firstOf};
+ghost use Rattle.local.specs.Local.{none, cellSize, placeOf, firstOf};
 ghost use Rattle.ports.specs.Codes.{cellLength};
 ghost use Rattle.forward.specs.Packets.{cleared, tidied, proxied, retried, aged, isArrived, goal, sent, ended, counted};
 ghost use Rattle.forward.specs.Seen.{seen, usable};
@@ -224,12 +224,19 @@ fn share_cell(h: Hall, x: u32, y: u32) -> bool
     x / count == y / count
 }
 
-// Whether the link of a level above b at `near` is usable, by the table of its DCell(b).
+// Whether the link of a level above b at a place is usable, by the table of the DCell(b).
+fn is_usable_at(h: Hall, table: &[u8], level: u32, place: u32) -> bool
+    ensures { λ r. ⌜ r ≡ usable h (now (table .entry)) level place ⌝ }
+{
+    ports::is_up(h, table, place, level)
+}
+
+// The same at the server `near`.
 fn is_usable(h: Hall, table: &[u8], level: u32, near: u32) -> bool
     requires { ⌜ valid h ≡ true ⌝ }
     ensures { λ r. ⌜ r ≡ usable h (now (table .entry)) level (placeOf h near) ⌝ }
 {
-    ports::is_up(h, table, near % cell_size(h), level)
+    is_usable_at(h, table, level, near % cell_size(h))
 }
 
 // The way to a local target.
@@ -263,17 +270,45 @@ fn way_over(h: Hall, table: &[u8], me: u32, goal: u32, link: Crossing) -> Way
     }
 }
 
-// Whether a place at distance d is a candidate nearer than `least`.
-fn is_nearer(h: Hall, table: &[u8], level: u32, place: u32, d: u8, least: u8) -> bool
-    ensures { λ r. ⌜ r ≡ both (ltb d least) (usable h (now (table .entry)) level place) ⌝ }
+// The farther of two distances, where the second may be none.
+fn farther(most: u8, d: u8) -> u8
+    ensures { λ r. ⌜ (most ≤ r) × (d < none → d ≤ r) × (most < none → r < none) ⌝ }
 {
-    if least <= d {
-        return false;
+    if d == NONE {
+        return most;
     }
-    ports::is_up(h, table, place, level)
+    if most < d {
+        return d;
+    }
+    most
 }
 
-// The candidate for a new proxy: at the first level from `first` on that has one, the nearest, then the lowest.
+// The greatest distance among the first places of a record.
+fn farthest(distance: &[u8; 72], count: u32) -> u8
+    requires { ⌜ count ≤ 72 ⌝ }
+    ensures { λ r. ⌜ (r < none) × ((q : ℕ) → q < count → getD (now (distance .entry)) q 0 < none → getD (now (distance .entry)) q 0 ≤ r) ⌝ }
+{
+    let mut most: u8 = 0;
+    let mut place: u32 = 0;
+    while place < count {
+        let at = place as usize;
+        most = farther(most, distance[at]);
+        place += 1;
+    }
+    most
+}
+
+// Whether a place, whose distance is x, is a candidate at distance d.
+fn is_candidate(h: Hall, table: &[u8], level: u32, place: u32, x: u8, d: u8) -> bool
+    ensures { λ r. ⌜ r ≡ both (eqb x d) (usable h (now (table .entry)) level place) ⌝ }
+{
+    if x != d {
+        return false;
+    }
+    is_usable_at(h, table, level, place)
+}
+
+// The candidate for a new proxy: the first by level, then by distance, then by uid.
 fn choose(h: Hall, table: &[u8], me: u32, first: u32) -> Candidate
     requires { ⌜ Here h (now table) me ⌝ }
     ensures { λ r. ⌜ r ≡ choice h (seen h (now (table .entry))) (placeOf h me) first ⌝ }
@@ -281,26 +316,26 @@ fn choose(h: Hall, table: &[u8], me: u32, first: u32) -> Candidate
     let from = local::distances_of(h, me, table);
     let count = from.count;
     let distance = from.distance;
-    let mut best = Candidate::Nothing;
+    let last = farthest(&distance, count);
+    let mut chosen = Candidate::Nothing;
     let mut level = first;
     'search: while level <= h.k {
-        let mut least = NONE;
-        let mut place: u32 = 0;
-        while place < count {
-            let at = place as usize;
-            let d = distance[at];
-            if is_nearer(h, table, level, place, d, least) {
-                best = Candidate::At { place, level };
-                least = d;
+        let mut d: u8 = 0;
+        while d <= last {
+            let mut place: u32 = 0;
+            while place < count {
+                let at = place as usize;
+                if is_candidate(h, table, level, place, distance[at], d) {
+                    chosen = Candidate::At { place, level };
+                    break 'search;
+                }
+                place += 1;
             }
-            place += 1;
-        }
-        if let Candidate::At { place: _, level: _ } = best {
-            break 'search;
+            d += 1;
         }
         level += 1;
     }
-    best
+    chosen
 }
 
 // The level that a reroute tries first.

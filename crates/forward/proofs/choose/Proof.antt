@@ -1,124 +1,176 @@
--- `forward::choose` meets its contract: what is left of the search is the whole search, the best so far is that of the places passed.
+-- `forward::choose` meets its contract: what is left of the search is the whole search, and no candidate is passed over, so the first that
+-- is met at a level is its nearest, then its lowest.
 use mathlib.Core.Path.{_≡_, refl, sym, _∙_}
-use mathlib.Core.Logic.{⊎-elim}
-use Prim.Native.Nat.{suc, _+_, _-_, _≤_, _<_}
+use mathlib.Core.Bool.{true}
+use Prim.Native.Nat.{ℕ, suc, _+_, _-_, _≤_, _<_}
 use native.Mathlib.Omega.{arith}
 use borrow.Author.Needs.{needs}
 use Rattle.hall.proofs.Growth.{valid-known}
-use Rattle.local.specs.Local.{cellSize, placeOf}
+use Rattle.local.specs.Local.{none, cellSize, placeOf}
 use Rattle.forward.specs.declared.Candidate.the-variants.{Nothing}
 use Rattle.forward.specs.Seen.{Seen, seen}
-use Rattle.forward.specs.Proxies.{bestBelow, choice}
-use Rattle.forward.proofs.CodeChoice.{leastOf, best-none, turn-nearer, turn-kept, choiceFrom, choice-whole, found-here, found-later, found-never, count-is, count-fits, distance-is, distance-small}
+use Rattle.forward.specs.Proxies.{isCandidate, choice}
+use Rattle.forward.proofs.CodeChoice.{choiceFrom, choice-whole, found-here, found-later, found-never, count-is, count-fits, distance-is, distance-small, look-finds, look-passes, passed-more, none-behind, nearest-best, none-best}
 use Rattle.forward.proofs.choose.Statement.{statement}
 use Rattle.forward.proofs.choose.Tie as tie
+use Rattle.forward.proofs.choose.Reads as reads
+use Rattle.forward.proofs.choose.Lts as lts
+use Rattle.forward.proofs.farthest.Reads as farthest-reads
+use Rattle.forward.proofs.is_candidate.Reads as is-candidate-reads
+use Rattle.local.proofs.distances_of.Reads as distances-of-reads
+
+-- no candidate of a level among the first places is nearer than d, or none of those at distance d is below a place
+abbrev Inv-loop2 : tie.InvT-loop2
+Inv-loop2 h table me first count distance last chosen₀ level d place₀ chosen place =
+    (place ≤ count) × (chosen ≡ Nothing)
+    × ((q : ℕ) → q < place → isCandidate (seen h table) (placeOf h me) level q ≡ true → d < (seen h table) .distance (placeOf h me) q)
+
+abbrev μ-loop2 : tie.MeasureT-loop2
+μ-loop2 h table me first count distance last chosen₀ level d place₀ chosen place = count - place
 
 abbrev Inv-loop : tie.InvT-loop
-Inv-loop h table me first count distance best₀ level least₀ place₀ best least place =
-    (place ≤ count) × (best ≡ bestBelow (seen h table) (placeOf h me) level place)
-    × (least ≡ leastOf ((seen h table) .distance (placeOf h me)) best) × (least ≤ 255)
+Inv-loop h table me first count distance last chosen₀ level d₀ chosen d =
+    (d ≤ last + 1) × (chosen ≡ Nothing)
+    × ((q : ℕ) → q < count → isCandidate (seen h table) (placeOf h me) level q ≡ true → d ≤ (seen h table) .distance (placeOf h me) q)
 
 abbrev μ-loop : tie.MeasureT-loop
-μ-loop h table me first count distance best₀ level least₀ place₀ best least place = count - place
+μ-loop h table me first count distance last chosen₀ level d₀ chosen d = last + 1 - d
 
 abbrev Inv-search : tie.InvT-search
-Inv-search h table me first count distance best₀ level₀ best level =
-    (choiceFrom h (seen h table) (placeOf h me) level ≡ choice h (seen h table) (placeOf h me) first) × (best ≡ Nothing)
+Inv-search h table me first count distance last chosen₀ level₀ chosen level =
+    (choiceFrom h (seen h table) (placeOf h me) level ≡ choice h (seen h table) (placeOf h me) first) × (chosen ≡ Nothing)
 
 abbrev μ-search : tie.MeasureT-search
-μ-search h table me first count distance best₀ level₀ best level = suc (h .k) - level
+μ-search h table me first count distance last chosen₀ level₀ chosen level = suc (h .k) - level
 
-distances-of-requires : tie.Need-distances-of-requires Inv-loop μ-loop Inv-search μ-search
+distances-of-requires :
+    tie.Need-distances-of-requires Inv-loop2 μ-loop2 Inv-loop μ-loop Inv-search μ-search
 distances-of-requires c κs = search needs
 
-search-holds : tie.Need-search-holds Inv-loop μ-loop Inv-search μ-search
+farthest-requires :
+    tie.Need-farthest-requires Inv-loop2 μ-loop2 Inv-loop μ-loop Inv-search μ-search
+farthest-requires c κs = count-fits _ _ _ (c .before .before .before .before .pre) _ (c .before .before .distances-of .ensures)
+
+search-holds : tie.Need-search-holds Inv-loop2 μ-loop2 Inv-loop μ-loop Inv-search μ-search
 search-holds c = (choice-whole _ _ _ _, refl)
 
-loop-holds : tie.Need-loop-holds Inv-loop μ-loop Inv-search μ-search
-loop-holds c = let e = c .before .before .search .inv .1 in (omega arith, e ∙ best-none _ _ _, rw e, omega arith)
+loop-holds : tie.Need-loop-holds Inv-loop2 μ-loop2 Inv-loop μ-loop Inv-search μ-search
+loop-holds c = (omega arith, c .before .before .search .inv .1, λ q l w. omega arith)
 
-cast-at : tie.Need-cast-at Inv-loop μ-loop Inv-search μ-search
+loop2-holds : tie.Need-loop2-holds Inv-loop2 μ-loop2 Inv-loop μ-loop Inv-search μ-search
+loop2-holds c = (omega arith, c .before .loop .inv .1, λ q l. absurd (omega arith))
+
+cast-at : tie.Need-cast-at Inv-loop2 μ-loop2 Inv-loop μ-loop Inv-search μ-search
 cast-at c = search needs
 
-array-read-d : tie.Need-array-read-d Inv-loop μ-loop Inv-search μ-search
-array-read-d c = omega (arith, count-fits _ _ _ (c .before .before .before .before .before .before .before .before .pre) _ (c .before .before .before .before .before .before .distances-of .ensures))
+array-read-is-candidate :
+    tie.Need-array-read-is-candidate Inv-loop2 μ-loop2 Inv-loop μ-loop Inv-search μ-search
+array-read-is-candidate c = omega (arith, count-fits _ _ _ (c .before .before .before .before .before .before .before .before .before .before .before .before .pre) _ (c .before .before .before .before .before .before .before .before .before .before .distances-of .ensures))
 
-is-nearer-requires : tie.Need-is-nearer-requires Inv-loop μ-loop Inv-search μ-search
-is-nearer-requires c κs = search needs
+is-candidate-requires :
+    tie.Need-is-candidate-requires Inv-loop2 μ-loop2 Inv-loop μ-loop Inv-search μ-search
+is-candidate-requires c κs = search needs
 
-add-place : tie.Need-add-place Inv-loop μ-loop Inv-search μ-search
+add-place : tie.Need-add-place Inv-loop2 μ-loop2 Inv-loop μ-loop Inv-search μ-search
 add-place c = omega arith
 
-loop-less : tie.Need-loop-less Inv-loop μ-loop Inv-search μ-search
+loop2-less : tie.Need-loop2-less Inv-loop2 μ-loop2 Inv-loop μ-loop Inv-search μ-search
+loop2-less c = omega arith
+
+loop2-again : tie.Need-loop2-again Inv-loop2 μ-loop2 Inv-loop μ-loop Inv-search μ-search
+loop2-again c =
+    let a = c .before .before .before .before .before .before .before .before .before .before .before .before .before .before in
+    let l2 = c .before .before .before .loop2 in
+    let l1 = c .before .before .before .before .before .loop in
+    let f = c .before .before .before .before .before .before .before .before .before .farthest .ensures in
+    let z : l2 .place < c .before .before .before .before .before .before .before .before .before .before .before .before .distances-of .result .count = omega arith in
+    let x = distance-is _ _ _ (a .pre) _ (c .before .before .before .before .before .before .before .before .before .before .before .before .distances-of .ensures) (l2 .place) z in (
+      omega arith,
+      l2 .inv .1,
+      passed-more (seen (a .args .h) (a .args .table .now)) (placeOf (a .args .h) (a .args .me)) (c .before .before .before .before .before .before .before .before .search .level) (l1 .d) (l2 .place) (l2 .inv .2)
+          (λ w. look-passes _ _ _ _ (l1 .d) (omega (arith, f .0)) _ x _ (c .before .is-candidate .ensures) (c .if2 .left) w (l1 .inv .2 (l2 .place) z w)),
+    )
+
+add-d : tie.Need-add-d Inv-loop2 μ-loop2 Inv-loop μ-loop Inv-search μ-search
+add-d c = omega (arith, c .before .before .before .before .before .before .before .farthest .ensures .0)
+
+loop-less : tie.Need-loop-less Inv-loop2 μ-loop2 Inv-loop μ-loop Inv-search μ-search
 loop-less c = omega arith
 
-loop-again : tie.Need-loop-again Inv-loop μ-loop Inv-search μ-search
+loop-again : tie.Need-loop-again Inv-loop2 μ-loop2 Inv-loop μ-loop Inv-search μ-search
 loop-again c =
-    let w = c .before .before .before in
-    let a = c .before .before .before .before .before .before .before .before .before .before in
-    let d = c .before .before .before .before .before .before .before .before .distances-of .ensures in
-    let l : w .loop .place < c .before .before .before .before .before .before .before .before .distances-of .result .count = omega arith in
-    let x = distance-is _ _ _ (a .pre) _ d (w .loop .place) l in
-    let n = distance-small _ _ _ (a .pre) _ d (w .loop .place) l in
-    let m = w .loop .inv .3 in
-    let t = c .before .is-nearer .ensures in
-    ⊎-elim
-    (λ g. (omega arith, g .1 ∙ turn-nearer _ _ _ _ n _ (w .loop .inv .1) _ (w .loop .inv .2) m _ x _ t (g .0 .taken), rw (g .1) (g .2 ∙ x), omega (arith, g .2, x)))
-    (λ g. (omega arith, g .1 ∙ turn-kept _ _ _ _ n _ (w .loop .inv .1) _ (w .loop .inv .2) m _ x _ t (g .0 .left), rw (g .1) (g .2 ∙ w .loop .inv .2), omega (arith, g .2)))
-    (c .if2 .came)
+    let l2 = c .before .loop2 in
+    (omega arith, l2 .inv .1, λ q l w. omega (arith, l2 .inv .2 q (omega arith) w))
 
-enum-told : tie.Need-enum-told Inv-loop μ-loop Inv-search μ-search
-enum-told c = search needs
-
-enum-told-2 : tie.Need-enum-told-2 Inv-loop μ-loop Inv-search μ-search
-enum-told-2 c = search needs
-
-add-level : tie.Need-add-level Inv-loop μ-loop Inv-search μ-search
+add-level : tie.Need-add-level Inv-loop2 μ-loop2 Inv-loop μ-loop Inv-search μ-search
 add-level c = let v = valid-known _ (c .before .before .before .before .before .before .before .before .before .before .pre .sound) in omega arith
 
-search-less : tie.Need-search-less Inv-loop μ-loop Inv-search μ-search
+search-less : tie.Need-search-less Inv-loop2 μ-loop2 Inv-loop μ-loop Inv-search μ-search
 search-less c = omega arith
 
-search-again : tie.Need-search-again Inv-loop μ-loop Inv-search μ-search
+search-again : tie.Need-search-again Inv-loop2 μ-loop2 Inv-loop μ-loop Inv-search μ-search
 search-again c =
-    let w = c .before .before .before in
     let a = c .before .before .before .before .before .before .before .before .before .before in
-    let n = count-is _ _ _ (a .pre) _ (c .before .before .before .before .before .before .before .before .distances-of .ensures) in
-    let e : w .loop .place ≡ cellSize (a .args .h) = omega arith in
-    let f = c .enum-told2 .given .1 in
-    (found-later _ _ _ (omega arith) (rw (← e) (sym (w .loop .inv .1) ∙ f)) ∙ c .before .before .before .before .before .before .search .inv .0, f)
+    let r = c .before .before .before .before .before .before .before .before .distances-of in
+    let f = c .before .before .before .before .before .farthest .ensures in
+    let l1 = c .before .loop in
+    let n = count-is _ _ _ (a .pre) _ (r .ensures) in (
+      found-later _ _ _ (omega arith)
+          (none-best (seen (a .args .h) (a .args .table .now)) (placeOf (a .args .h) (a .args .me)) (c .before .before .before .before .search .level) (cellSize (a .args .h)) (λ q k.
+          let z : q < r .result .count = omega (arith, n) in
+          none-behind _ _ _ q _ (l1 .d) _ (distance-is _ _ _ (a .pre) _ (r .ensures) q z) (distance-small _ _ _ (a .pre) _ (r .ensures) q z) (f .1 q z) (omega arith)
+          (l1 .inv .2 q z)))
+          ∙ c .before .before .before .before .search .inv .0,
+      l1 .inv .1,
+    )
 
-returns : tie.Need-returns Inv-loop μ-loop Inv-search μ-search
+returns : tie.Need-returns Inv-loop2 μ-loop2 Inv-loop μ-loop Inv-search μ-search
 returns c = c .before .before .search .inv .1 ∙ sym (sym (c .before .before .search .inv .0) ∙ found-never _ _ _ (omega arith))
 
-returns-2 : tie.Need-returns-2 Inv-loop μ-loop Inv-search μ-search
+returns-2 : tie.Need-returns-2 Inv-loop2 μ-loop2 Inv-loop μ-loop Inv-search μ-search
 returns-2 c =
-    let w = c .before .before .before in
-    let a = c .before .before .before .before .before .before .before .before .before .before in
-    let n = count-is _ _ _ (a .pre) _ (c .before .before .before .before .before .before .before .before .distances-of .ensures) in
-    let e : w .loop .place ≡ cellSize (a .args .h) = omega arith in
-    let f = c .enum-told .given .1 in
-    f ∙ sym (sym (c .before .before .before .before .before .before .search .inv .0) ∙ found-here _ _ _ _ _ (omega arith) (rw (← e) (sym (w .loop .inv .1) ∙ f)))
+    let a = c .before .before .before .before .before .before .before .before .before .before .before .before .before .before in
+    let r = c .before .before .before .before .before .before .before .before .before .before .before .before .distances-of in
+    let f = c .before .before .before .before .before .before .before .before .before .farthest .ensures in
+    let l1 = c .before .before .before .before .before .loop in
+    let l2 = c .before .before .before .loop2 in
+    let n = count-is _ _ _ (a .pre) _ (r .ensures) in
+    let z : l2 .place < r .result .count = omega arith in
+    let x = distance-is _ _ _ (a .pre) _ (r .ensures) (l2 .place) z in
+    let w = look-finds (seen (a .args .h) (a .args .table .now)) (placeOf (a .args .h) (a .args .me)) (c .before .before .before .before .before .before .before .before .search .level) (l2 .place) (l1 .d) (omega (arith, f .0)) _ x
+    _ (c .before .is-candidate .ensures) (c .if2 .taken) in
+    sym (sym (c .before .before .before .before .before .before .before .before .search .inv .0) ∙ found-here _ _ _ _ _ (omega arith)
+    (nearest-best _ _ _ (cellSize (a .args .h)) (l2 .place) (record {
+      below = omega (arith, n);
+      candidate = w .0;
+      nearest = λ q k v. omega (arith, w .1, l1 .inv .2 q (omega (arith, n)) v);
+      lowest = λ q k v. omega (arith, w .1, l2 .inv .2 q k v);
+    })))
 
 pub choose-spec : {M : Type 1} → statement M
 choose-spec =
     tie.close
     (tie.spec
+    Inv-loop2
+    μ-loop2
     Inv-loop
     μ-loop
     Inv-search
     μ-search
     distances-of-requires
+    farthest-requires
     search-holds
     loop-holds
+    loop2-holds
     cast-at
-    array-read-d
-    is-nearer-requires
+    array-read-is-candidate
+    is-candidate-requires
     add-place
+    loop2-less
+    loop2-again
+    add-d
     loop-less
     loop-again
-    enum-told
-    enum-told-2
     add-level
     search-less
     search-again
