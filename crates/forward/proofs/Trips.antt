@@ -17,7 +17,8 @@ use Rattle.forward.specs.Packets.{forwarded, cleared, tidied}
 use Rattle.forward.specs.Seen.{seen}
 use Rattle.forward.specs.Journeys.{Trip, stepAt, endsAt, goesOn, tripOn, trip}
 use Rattle.forward.proofs.Passes.{pick-ways}
-use Rattle.forward.proofs.Ways.{Ending, is-forwarded, is-delivered, is-drop-ttl, is-drop-route, is-drop-retry, is-drop-proxy, SentOn, Final, final-delivered, final-drop-ttl, final-drop-route, final-drop-retry, final-drop-proxy, Travels, last-step, one-step, LastStep}
+use Rattle.forward.specs.Travels.{Travels, last-step, one-step, Comes, at-source, next-step}
+use Rattle.forward.proofs.Ways.{Ending, is-forwarded, is-delivered, is-drop-ttl, is-drop-route, is-drop-retry, is-drop-proxy, SentOn, Final, final-delivered, final-drop-ttl, final-drop-route, final-drop-retry, final-drop-proxy, LastStep}
 use Rattle.forward.proofs.Steps.{step-ending, sent-on, reroutes-few}
 
 -- a packet keeps its numbers where it is tidied
@@ -99,11 +100,19 @@ module _ (h : Hall) (table : List ℕ) where
   trip-ending {me} {p} (last-step d) = final (step-ending h (seen h (part h table me)) me (tidied p)) d
   trip-ending (one-step e t) = trip-ending t
 
-  pub trip-last : {me : ℕ} {p : Packet} {j : Trip} → Travels h table me p j → LastStep h table p j
+  -- what comes to a server behind a step that forwards comes there from before it
+  comes-before : {me : ℕ} {p : Packet} {at : ℕ} {came : Packet} {before : List ℕ} → stepAt h table me p .ending ≡ forwarded
+      → Comes h table (stepAt h table me p .next) (stepAt h table me p .packet) at came before → Comes h table me p at came (me ∷ before)
+  comes-before e at-source = next-step at-source e
+  comes-before e (next-step c d) = next-step (comes-before e c) d
+
+  pub trip-last : {me : ℕ} {p : Packet} {j : Trip} → Travels h table me p j → LastStep h table me p j
   trip-last {me} {p} (last-step d) = record {
     at = me;
     came = p;
-    is-last = ([], refl);
+    before = [];
+    comes = at-source;
+    is-last = refl;
     ends-it = refl;
     same-dst = refl;
     aged = omega arith;
@@ -115,7 +124,9 @@ module _ (h : Hall) (table : List ℕ) where
       record {
         at = i .at;
         came = i .came;
-        is-last = (me ∷ i .is-last .0, ap (λ (r : List ℕ). me ∷ r) (i .is-last .1));
+        before = me ∷ i .before;
+        comes = comes-before e (i .comes);
+        is-last = ap (λ (r : List ℕ). me ∷ r) (i .is-last);
         ends-it = i .ends-it;
         same-dst = i .same-dst ∙ z .dst;
         aged = omega (arith, i .aged, z .ttl);

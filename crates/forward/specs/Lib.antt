@@ -3,7 +3,10 @@ pub mod Packets
 pub mod Seen
 pub mod Proxies
 pub mod Steps
+pub mod Endings
+pub mod Reroutes
 pub mod Journeys
+pub mod Travels
 pub mod Answers
 pub mod Inside
 pub mod Worked

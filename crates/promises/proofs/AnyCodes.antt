@@ -3,7 +3,8 @@
 use mathlib.Core.Path.{_≡_, refl, sym, _∙_}
 use mathlib.Core.Bool.{true}
 use mathlib.Core.List.{List}
-use Prim.Native.Nat.{ℕ, suc, _≤_, _<_}
+use Prim.Native.Nat.{ℕ, suc, _+_, _≤_, _<_}
+use native.Mathlib.Omega.{arith}
 use Rattle.combine.proofs.Tests.{never}
 use Rattle.hall.specs.declared.Hall.{Hall}
 use Rattle.hall.specs.Halls.{valid, servers}
@@ -13,20 +14,21 @@ use Rattle.ports.proofs.Runs.{part-up}
 use Rattle.local.proofs.Uids.{linked-hall}
 use Rattle.local.specs.Local.{cellSize, placeOf, linked}
 use Rattle.forward.specs.declared.Packet.{Packet}
-use Rattle.forward.specs.Packets.{forwarded, cleared, tidied}
+use Rattle.forward.specs.Packets.{forwarded, drop-retry, cleared, tidied}
 use Rattle.forward.specs.Seen.{usable, seen}
+use Rattle.forward.specs.Endings.{Spent}
 use Rattle.forward.specs.Journeys.{stepAt}
 use Rattle.forward.proofs.Passes.{pick-ways}
 use Rattle.forward.proofs.Steps.{delivered-there, drop-ttl-there, drop-route-means, drop-retry-means, drop-proxy-means}
 use Rattle.forward.proofs.Ways.{Fits, Hop, inside, over, Final, final-delivered, final-drop-ttl, final-drop-route, final-drop-retry, final-drop-proxy}
-use Rattle.forward.proofs.Trips.{tidied-dst, tidied-ttl, trip-travels, links-within, reroutes-within, trip-ending, trip-last, each-hop}
+use Rattle.forward.proofs.Trips.{tidied-dst, tidied-ttl, tidied-retry, trip-travels, links-within, reroutes-within, trip-ending, trip-last, each-hop}
 use Rattle.forward.proofs.Links.{n-pos}
 use Rattle.forward.proofs.Hops.{step-forwards}
 use Rattle.forward.proofs.Sight.{seen-links}
 use Rattle.promises.specs.Journeys.{Usable, up-to-b, above-b}
-use Rattle.promises.specs.AnyCodes.{Means, means-delivered, means-ttl, means-route, means-retry, means-proxy, AnyCodes}
+use Rattle.promises.specs.AnyCodes.{Means, means-delivered, means-ttl, means-route, means-retry, means-proxy, AnyCodes, RetrySpent}
 
-tidied-fits : (h : Hall) (p : Packet) → Fits h p → Fits h (tidied p)
+pub tidied-fits : (h : Hall) (p : Packet) → Fits h p → Fits h (tidied p)
 tidied-fits h p f =
     pick-ways (Fits h) (p .«has_proxy») p (cleared p) (λ e. f) (λ e. record { dst-in = f .dst-in; proxy-in = λ q. never q refl })
 
@@ -76,9 +78,13 @@ any-codes h table source p s =
       ended-at = record {
         at = l .at;
         packet = l .came;
+        before = l .before;
+        comes = l .comes;
         is-last = l .is-last;
+        ends-it = l .ends-it;
         same-dst = l .same-dst;
         aged = l .aged;
+        lowered = omega (arith, l .lowered);
         means = means h table (l .at) (l .came) (trip-ending h table w) (l .ends-it);
       };
       links-usable =
@@ -87,3 +93,18 @@ any-codes h table source p s =
       links-few = links-within h table w;
       reroutes-few = reroutes-within h table w;
     }
+
+-- drop 3 is the only ending of its number
+spent-then : (h : Hall) (table : List ℕ) (at : ℕ) (p : Packet) {e : ℕ} → Means h table at p e → e ≡ drop-retry
+    → Spent h (seen h (part h table at)) at (tidied p) (stepAt h table at p)
+spent-then h table at p (means-delivered d) q = absurd (omega arith)
+spent-then h table at p (means-ttl d z) q = absurd (omega arith)
+spent-then h table at p (means-route w) q = absurd (omega arith)
+spent-then h table at p (means-retry w) q = w
+spent-then h table at p (means-proxy w) q = absurd (omega arith)
+
+-- the retry that is left in the last pass is at most one, and the reroutes took the rest
+pub retry-spent : RetrySpent
+retry-spent h table source p j e q =
+    let w = spent-then h table (e .at) (e .packet) (e .means) q in
+    omega (arith, w .at-most-one, w .lowered, e .lowered, tidied-retry (e .packet))

@@ -38,7 +38,9 @@ use Rattle.forward.specs.Packets.{forwarded, delivered, cleared, tidied, isArri
 use Rattle.forward.specs.Seen.{usable, seen}
 use Rattle.forward.specs.Steps.{reachable, stepOn}
 use Rattle.forward.specs.Journeys.{Trip, stepAt, trip}
-use Rattle.forward.proofs.Ways.{Target, the-goal, the-near, Fails, unusable, out-of-reach, nears, crosses, no-route, spent, no-proxy, Passes, ends, clears, sets, Steps, delivers, dies, arrives, sets-out, Fits, Last, Travels, last-step, one-step}
+use Rattle.forward.specs.Endings.{Target, the-goal, the-near, Fails, unusable, out-of-reach}
+use Rattle.forward.specs.Travels.{Last, Travels, last-step, one-step}
+use Rattle.forward.proofs.Ways.{nears, crosses, no-route, spent, no-proxy, Passes, ends, clears, sets, Steps, delivers, dies, arrives, sets-out, Fits}
 use Rattle.forward.proofs.Steps.{step-ways, there-delivered, there-drop-ttl}
 use Rattle.forward.proofs.Trips.{step-sends, trip-travels, links-counted}
 use Rattle.forward.proofs.Links.{n-pos, link-above, none-above, link-ahead}
