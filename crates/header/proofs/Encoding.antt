@@ -19,8 +19,8 @@ use Rattle.frame.proofs.Rows.{first-read, third-read, word-0, word-2, protocol-
 use Rattle.frame.proofs.Words.{Bytes, word-fits, bytes-cong}
 use Rattle.frame.proofs.Frames.{Sound, accepted-sound}
 use Rattle.header.specs.declared.Fields.{Fields}
-use Rattle.header.specs.Writing.{countOf, valuesOf, sumOf, headerWords, headerBytes, fieldsOf}
-use Rattle.header.proofs.Written.{Fit, second-is, fourth-is, fifth-is, sixth-is, written-fits}
+use Rattle.header.specs.Writing.{countOf, valuesOf, sumOf, headerWords, headerBytes, writeRefusal, fieldsOf}
+use Rattle.header.proofs.Written.{Fit, second-is, fourth-is, fifth-is, sixth-is, written-fits, write-done}
 use Rattle.header.proofs.Same.{accepted-read}
 
 -- four bytes are those of the word that they make
@@ -171,6 +171,16 @@ module _ (frame : List ℕ) (fit : Bytes frame) (e : frameRefusal frame ≡ 0) w
   one-encoding =
       rw (accepted-read frame e, given-count)
       (sym (bytes-read frame fit (valueIn words DHL) (sound .whole)) ∙ bytes-cong words (headerWords given) (valueIn words DHL) word-given)
+
+  -- the header's length is that of the words to be written
+  pub length-again : readFrame frame .«header_length» ≡ 4 * countOf (fieldsOf (readFrame frame))
+  length-again = rw (accepted-read frame e) (ap (λ (count : ℕ). 4 * count) (sym given-count))
+
+  -- and its fields are not refused, where there is room
+  pub written-again : (room : List ℕ) → readFrame frame .«header_length» ≤ length room → writeRefusal (fieldsOf (readFrame frame)) room ≡ 0
+  written-again room h =
+      let l : 4 * valueIn words DHL ≤ length room = rw (accepted-read frame e) at h in
+      rw (accepted-read frame e) (sym (write-done given room (given-fit .retry) (sound .addressed) (omega (arith, given-count)) .0))
 
 -- two accepted headers with equal fields are equal bytes
 pub equal-fields : (frame other : List ℕ) → Bytes frame → Bytes other → frameRefusal frame ≡ 0 → frameRefusal other ≡ 0 → readFrame frame ≡ readFrame other

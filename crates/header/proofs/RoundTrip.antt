@@ -23,7 +23,7 @@ use Rattle.frame.proofs.Words.{word-split, bytes-length}
 use Rattle.frame.proofs.Frames.{Sound}
 use Rattle.header.specs.declared.Fields.{Fields}
 use Rattle.header.specs.Writing.{countOf, valuesOf, sumOf, headerWords, headerBytes, headerFor}
-use Rattle.header.proofs.Written.{Fit, first-is, first-any, second-is, third-is, fourth-is, fifth-is, sixth-is, written-fits, count-fits, flag-small, sum-fits}
+use Rattle.header.proofs.Written.{Fit, first-is, first-any, second-is, third-is, fourth-is, fifth-is, sixth-is, written-fits, count-fits, flag-small, sum-fits, header-long}
 use Rattle.header.proofs.Same.{same-header, same-sound, same-DHL, same-payload, sound-read, accepted-read, accepted-payload}
 
 -- what stands k behind a first list of length n
@@ -187,10 +187,6 @@ module _ (fields : Fields) (fit : Fit fields) where
       abbrev sent : List ℕ
       sent = headerBytes fields ++ (payload ++ padding)
 
-      header-length : length (headerBytes fields) ≡ 4 * countOf fields
-      unfolding headerBytes
-      header-length = bytes-length (headerWords fields) (countOf fields)
-
       sent-words : (i : ℕ) → i < valueIn (headerWords fields) DHL → headerWords fields i ≡ wordAt sent i
       unfolding headerBytes
       sent-words i h = sym (word-written (headerWords fields) (countOf fields) i (payload ++ padding) (omega (arith, DHL-written)) (words-fit i))
@@ -203,7 +199,7 @@ module _ (fields : Fields) (fit : Fit fields) where
           sound-read sent
           (same-sound (headerWords fields) (wordAt sent) low sent-words sent sent (omega arith)
           (written-sound sent
-          (omega (arith, length-append (headerBytes fields) (payload ++ padding), length-append payload padding, header-length))))
+          (omega (arith, length-append (headerBytes fields) (payload ++ padding), length-append payload padding, header-long fields))))
 
       -- what is written reads back to the same fields
       pub round-trip : readFrame (headerBytes fields ++ (payload ++ padding)) ≡ headerFor fields
@@ -218,6 +214,6 @@ module _ (fields : Fields) (fit : Fit fields) where
             ← same-payload (headerWords fields) (wordAt sent) low sent-words,
             DHL-written,
             payload-written,
-            drop-at (headerBytes fields) (payload ++ padding) (4 * countOf fields) header-length,
+            drop-at (headerBytes fields) (payload ++ padding) (4 * countOf fields) (header-long fields),
             take-at payload padding (fields .«payload_length») stated,
           )

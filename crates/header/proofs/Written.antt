@@ -4,8 +4,9 @@ use mathlib.Core.Bool.{Bool, true, false}
 use mathlib.Core.List.{List, [], _∷_, _++_}
 use Prim.Native.Nat.{ℕ, zero, suc, _+_, _-_, _*_, _%_, _≤_, _<_}
 use native.Mathlib.Omega.{arith}
+use lib.Dec.{leb}
 use lib.ListN.{length, getD, drop}
-use borrow.Author.Tests.{ne-eqb, le-leb, lt-leb}
+use borrow.Author.Tests.{ne-eqb, le-leb, lt-leb, leb-true, leb-false}
 use Rattle.combine.specs.Tests.{pick}
 use Rattle.combine.specs.Lists.{upTo}
 use Rattle.combine.proofs.Tests.{cases}
@@ -16,7 +17,7 @@ use Rattle.frame.specs.Checksum.{total, folded, checksumOf, headerChecksum}
 use Rattle.frame.specs.Addresses.{addressesFit}
 use Rattle.frame.proofs.Rows.{word-0, word-1, word-2, word-3, word-4, word-5, word-beyond}
 use Rattle.frame.proofs.Sums.{checksum-words}
-use Rattle.frame.proofs.Words.{bytes-cong}
+use Rattle.frame.proofs.Words.{bytes-cong, bytes-length}
 use Rattle.header.specs.declared.Fields.{Fields}
 use Rattle.header.specs.Writing.{countOf, valuesOf, sumOf, headerWords, headerBytes, writeRefusal, roomWritten}
 
@@ -158,3 +159,26 @@ module _ (fields : Fields) (room : List ℕ) where
       write-done l =
           let e : 0 ≡ writeRefusal fields room = rw (le-leb (fields .retry) 15 h, q, le-leb (4 * countOf fields) (length room) l) in
           (e, rw (← e))
+
+  -- what is not refused: a retry that the header can say, addresses of their kinds, and room
+  pub write-accepted : writeRefusal fields room ≡ 0
+      → (fields .retry ≤ 15) × (addressesFit (fields .source) (fields .destination) (fields .«has_proxy») (fields .proxy) ≡ true) × (4 * countOf fields ≤ length room)
+  write-accepted e =
+      cases (leb (fields .retry) 15)
+      (λ a.
+      let h = leb-true (fields .retry) 15 a in
+      cases (addressesFit (fields .source) (fields .destination) (fields .«has_proxy») (fields .proxy))
+      (λ q.
+      cases (leb (4 * countOf fields) (length room))
+      (λ l. (h, q, leb-true (4 * countOf fields) (length room) l))
+      (λ l. absurd (omega (arith, e, write-short h q (leb-false (4 * countOf fields) (length room) l) .0))))
+      (λ q. absurd (omega (arith, e, write-address h q .0))))
+      (λ a. absurd (omega (arith, e, write-retry (leb-false (fields .retry) 15 a) .0)))
+
+  -- the room then begins with the header
+  pub room-begins : writeRefusal fields room ≡ 0 → roomWritten fields room ≡ headerBytes fields ++ drop (4 * countOf fields) room
+  room-begins e = let a = write-accepted e in sym (write-done (a .0) (a .1) (a .2) .1)
+
+pub header-long : (fields : Fields) → length (headerBytes fields) ≡ 4 * countOf fields
+unfolding headerBytes
+header-long fields = bytes-length (headerWords fields) (countOf fields)
