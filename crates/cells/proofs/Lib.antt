@@ -1,2 +1,3 @@
 -- The laws.
 pub mod Asks
+pub mod Wide

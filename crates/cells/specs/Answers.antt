@@ -8,7 +8,7 @@ use lib.ListN.{replicate}
 use Rattle.combine.specs.Tests.{both}
 use Rattle.hall.specs.declared.Hall.{Hall}
 use Rattle.hall.specs.Refusals.{Ask, refusal, answered, bad-range}
-use Rattle.hall.specs.Cells.{t, g, cell, end, neighbour}
+use Rattle.hall.specs.Cells.{t, g, cell, subOver, endOver, end, neighbour}
 use Rattle.hall.specs.Halls.{places, asksHall, asksUid, asksLevel}
 use Rattle.hall.specs.Tuples.{uidUpTo, tupleFits, tuple}
 use Rattle.cells.specs.declared.Uid.{Uid}
@@ -16,6 +16,7 @@ use Rattle.cells.specs.declared.Tuple.{Tuple}
 use Rattle.cells.specs.declared.Cell.{Cell}
 use Rattle.cells.specs.declared.Neighbour.{Neighbour}
 use Rattle.cells.specs.declared.Link.{Link}
+use Rattle.cells.specs.declared.joined.Ends.{Ends}
 
 -- the uid of a tuple
 abbrev pub uidOf : Hall → List ℕ → Uid
@@ -58,3 +59,7 @@ linkBetween h u i p q =
     answered (refusal (asksLink h u i p q))
     (record { refusal = 0; from = end (h .n) (i - 1) u p q; to = end (h .n) (i - 1) u q p })
     (λ number. record { refusal = number; from = 0; to = 0 })
+
+-- the ends of the link between the sub-cells of x and y, over sub-cells of T servers each
+abbrev pub endsOver : ℕ → ℕ → ℕ → Ends
+endsOver T x y = record { near = endOver T x (subOver T x) (subOver T y); far = endOver T x (subOver T y) (subOver T x) }

@@ -1,4 +1,6 @@
 // Where a server stands in a hall: its tuple, the cells around it, its neighbours and links.
+mod joined;
+
 ghost use mathlib.Core.Bool.{true};
 ghost use mathlib.Core.Path.{_≡_};
 ghost use mathlib.Core.List.{[], _∷_};
@@ -9,6 +11,8 @@ ghost use Rattle.hall.specs.Halls.{asksHall, asksUid, asksLevel};
 ghost use Rattle.hall.specs.Tuples.{entryFits, tupleFits, uidUpTo, tuple};
 ghost use Rattle.hall.specs.Answers.{sizeAt, sizesOf};
 ghost use Rattle.cells.specs.Answers.{uidOf, tupleOf, cellAround, neighbourOf, asksLink, linkBetween};
+use crate::joined::ends_over;
+use crate::joined::neighbour_over;
 use hall::Hall;
 use hall::Sizes;
 use hall::refusals::BAD_RANGE;
@@ -116,7 +120,7 @@ pub fn neighbour_of(h: Hall, uid: u32, level: u32) -> Neighbour
         };
     }
     let t = sizes.t;
-    let joined = hall::neighbour_over(t[(level - 1) as usize], uid);
+    let joined = neighbour_over(t[(level - 1) as usize], uid);
     Neighbour {
         refusal: 0,
         uid: joined as u32,
@@ -166,7 +170,7 @@ pub fn link_between(h: Hall, uid: u32, level: u32, p: u32, q: u32) -> Link
     let first = uid / count * count;
     let below = (level - 1) as usize;
     let size = t[below];
-    let ends = hall::ends_over(size, first + p * size, first + q * size);
+    let ends = ends_over(size, first + p * size, first + q * size);
     Link {
         refusal: 0,
         from: ends.near as u32,

@@ -11,6 +11,7 @@ ghost use Rattle.combine.specs.Tests.{pick, both, either};
 ghost use Rattle.hall.specs.Cells.{same, neighbour};
 ghost use Rattle.hall.specs.Halls.{valid, asksHall};
 ghost use Rattle.hall.specs.Refusals.{refusal, bad-length};
+ghost use Rattle.route.specs.Answers.{firstLink};
 ghost use Rattle.local.specs.Local.{none, cellSize, placeOf, firstOf};
 ghost use Rattle.ports.specs.Codes.{cellLength};
 ghost use Rattle.forward.specs.Packets.{cleared, tidied, proxied, retried, aged, isArrived, goal, sent, ended, counted};
@@ -338,6 +339,15 @@ fn choose(h: Hall, table: &[u8], me: u32, first: u32) -> Candidate
     chosen
 }
 
+// The first link above b of the route from one server to another.
+fn first_link(h: Hall, x: u32, y: u32) -> Crossing
+    ensures { λ r. ⌜ r ≡ firstLink h x y ⌝ }
+{
+    let found = route::first_link(h, x, y);
+    let link = found.link;
+    link
+}
+
 // The level that a reroute tries first.
 fn first_level(h: Hall, level: u32, arrived: bool) -> u32
     requires { ⌜ level ≤ 3 ⌝ }
@@ -367,7 +377,7 @@ fn step_from(h: Hall, table: &[u8], me: u32, came: Packet, p: Packet, arrived: b
     ensures { λ r. ⌜ r ≡ stepFrom h (seen h (now (table .entry))) me came p arrived ⌝ }
 {
     let to = goal(p);
-    let link = route::first_link(h, me, to);
+    let link = first_link(h, me, to);
     match way_over(h, table, me, to, link) {
         Way::To { uid } => sent(uid, p),
         Way::Closed => reroute(h, table, me, came, link, p, arrived),

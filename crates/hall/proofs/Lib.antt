@@ -4,5 +4,4 @@ pub mod Cells
 pub mod Links
 pub mod Tuples
 pub mod Growth
-pub mod Wide
 pub mod Told

@@ -1,4 +1,4 @@
--- What the calls about a hall's sizes and the ends of a link answer.
+-- What the call about a hall's sizes answers.
 -- Sections "The hall and its numbers" and "Refusal numbers".
 use mathlib.Core.List.{[], _∷_}
 use Prim.Native.Nat.{ℕ}
@@ -8,14 +8,9 @@ use Rattle.combine.specs.Tests.{pick}
 use Rattle.combine.specs.Lists.{upTo}
 use Rattle.hall.specs.declared.Hall.{Hall}
 use Rattle.hall.specs.declared.Sizes.{Sizes}
-use Rattle.hall.specs.declared.Ends.{Ends}
 use Rattle.hall.specs.Refusals.{refusal, answered}
-use Rattle.hall.specs.Cells.{t, subOver, endOver}
+use Rattle.hall.specs.Cells.{t}
 use Rattle.hall.specs.Halls.{places, asksHall}
-
--- the ends of the link between the sub-cells of x and y, over sub-cells of T servers each
-abbrev pub endsOver : ℕ → ℕ → ℕ → Ends
-endsOver T x y = record { near = endOver T x (subOver T x) (subOver T y); far = endOver T x (subOver T y) (subOver T x) }
 
 -- t(0) .. t(k), zeros above k
 unfoldable pub sizeAt : ℕ → ℕ → ℕ → ℕ

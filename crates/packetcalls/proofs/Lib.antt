@@ -1,1 +1,2 @@
--- The laws stand in the crates that are called.
+-- The laws of two rooms; the others stand in the crates that are called.
+pub mod TwoRooms

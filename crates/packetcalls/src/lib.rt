@@ -2,11 +2,11 @@
 ghost use mathlib.Core.Path.{_≡_};
 ghost use Rattle.local.specs.Answers.{distancesOf, nextHopOf};
 ghost use Rattle.forward.specs.Answers.{journeyOf};
-ghost use Rattle.broadcast.specs.Broadcasts.{broadcastOf, roomOf};
-ghost use Rattle.frame.specs.Reading.{payloadOf, nextIdentification};
+ghost use Rattle.broadcast.specs.Broadcasts.{broadcastOf};
+ghost use Rattle.frame.specs.Reading.{nextIdentification};
 ghost use Rattle.hall.specs.Rooms.{told, written};
 ghost use Rattle.rooms.specs.Numbers.{hallOf};
-ghost use Rattle.packetcalls.specs.Outcomes.{ofDistances, ofOrigin, ofNextHop, ofBroadcast, packetOf, ofPassed, ofCounts};
+ghost use Rattle.packetcalls.specs.Outcomes.{ofDistances, ofOrigin, ofNextHop, ofBroadcast, roundsTold, ofPayload, packetOf, ofPassed, ofCounts};
 use forward::Packet;
 use hall::Hall;
 use rooms::tell;
@@ -66,11 +66,12 @@ pub extern "C" fn calls_next_hop(
 
 #[no_mangle]
 pub extern "C" fn calls_payload(frame: &[u8], room: &mut [u8]) -> u32
-    ensures number { λ r. ⌜ r ≡ told (0, payloadOf (now (frame .entry))) (now (room .entry)) ⌝ }
-    ensures room { λ _. ⌜ now (room .exit) ≡ written (0, payloadOf (now (frame .entry))) (now (room .entry)) ⌝ }
+    ensures number { λ r. ⌜ r ≡ told (ofPayload (now (frame .entry))) (now (room .entry)) ⌝ }
+    ensures room { λ _. ⌜ now (room .exit) ≡ written (ofPayload (now (frame .entry))) (now (room .entry)) ⌝ }
 {
+    let number = frame::read_frame(frame).refusal;
     let part = frame::payload_of(frame);
-    tell_bytes(0, part, room)
+    tell_bytes(number, part, room)
 }
 
 #[no_mangle]
@@ -80,6 +81,7 @@ pub extern "C" fn calls_next_identification(id: u32) -> u32
     frame::next_identification(id)
 }
 
+// Where the room for the counts is short, the broadcast is asked without room, which tells its refusal and writes nothing.
 #[no_mangle]
 pub extern "C" fn calls_broadcast(
     n: u32,
@@ -92,10 +94,14 @@ pub extern "C" fn calls_broadcast(
     room: &mut [u32],
 ) -> u32
     ensures number { λ r. ⌜ r ≡ told (ofBroadcast (broadcastOf (hallOf n k b) (now (table .entry)) source scope (now (rounds .entry)))) (now (room .entry)) ⌝ }
-    ensures rounds { λ _. ⌜ now (rounds .exit) ≡ roomOf (hallOf n k b) (now (table .entry)) source scope (now (rounds .entry)) ⌝ }
+    ensures rounds { λ _. ⌜ now (rounds .exit) ≡ roundsTold (hallOf n k b) (now (table .entry)) source scope (now (rounds .entry)) (now (room .entry)) ⌝ }
     ensures room { λ _. ⌜ now (room .exit) ≡ written (ofBroadcast (broadcastOf (hallOf n k b) (now (table .entry)) source scope (now (rounds .entry)))) (now (room .entry)) ⌝ }
 {
-    let a = broadcast::broadcast_rounds(Hall { n, k, b }, table, source, scope, rounds);
+    let h = Hall { n, k, b };
+    if room.len() < 2 {
+        return broadcast::broadcast_rounds(h, table, source, scope, &mut rounds[0..0]).refusal;
+    }
+    let a = broadcast::broadcast_rounds(h, table, source, scope, rounds);
     let words = [a.reached, a.last];
     tell(a.refusal, &words, room)
 }

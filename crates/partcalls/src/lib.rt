@@ -2,17 +2,17 @@
 ghost use mathlib.Core.Path.{_≡_};
 ghost use Prim.Native.Nat.{_-_};
 ghost use Rattle.combine.specs.Tests.{pick};
-ghost use Rattle.hall.specs.Cells.{neighbourOver};
 ghost use Rattle.hall.specs.Halls.{nFits, kFits, bFits, valid, servers};
-ghost use Rattle.hall.specs.Answers.{endsOver};
-ghost use Rattle.route.specs.Answers.{firstLink};
+ghost use Rattle.route.specs.Answers.{firstLinkOf};
 ghost use Rattle.ports.specs.Codes.{known, firstUnknown, up};
 ghost use Rattle.frame.specs.Addresses.{addressesFit};
 ghost use Rattle.frame.specs.Checksum.{folded};
 ghost use Rattle.sheet.specs.Formats.{wordAt};
+ghost use Rattle.hall.specs.Rooms.{told, written};
 ghost use Rattle.rooms.specs.Numbers.{hallOf};
-ghost use Rattle.partcalls.specs.Outcomes.{levelOf, nearOf, farOf};
+ghost use Rattle.partcalls.specs.Outcomes.{ofFirstLink};
 use hall::Hall;
+use rooms::tell;
 use route::Crossing;
 
 #[no_mangle]
@@ -37,69 +37,28 @@ pub extern "C" fn calls_b_fits(k: u32, b: u32) -> bool
 }
 
 #[no_mangle]
-pub extern "C" fn calls_is_valid(n: u32, k: u32, b: u32) -> bool
-    ensures { λ r. ⌜ r ≡ valid (hallOf n k b) ⌝ }
-{
-    hall::is_valid(Hall { n, k, b })
-}
-
-#[no_mangle]
 pub extern "C" fn calls_servers(n: u32, k: u32, b: u32) -> u32
     ensures { λ r. ⌜ r ≡ pick (valid (hallOf n k b)) (servers (hallOf n k b)) 0 ⌝ }
 {
     hall::servers_of(Hall { n, k, b })
 }
 
+// Zeros where there is no such link.
 #[no_mangle]
-pub extern "C" fn calls_neighbour_over(size: u32, uid: u32) -> u64
-    ensures { λ r. ⌜ r ≡ neighbourOver size uid ⌝ }
+pub extern "C" fn calls_first_link(n: u32, k: u32, b: u32, x: u32, y: u32, room: &mut [u32]) -> u32
+    ensures number { λ r. ⌜ r ≡ told (ofFirstLink (firstLinkOf (hallOf n k b) x y)) (now (room .entry)) ⌝ }
+    ensures room { λ _. ⌜ now (room .exit) ≡ written (ofFirstLink (firstLinkOf (hallOf n k b) x y)) (now (room .entry)) ⌝ }
 {
-    hall::neighbour_over(size, uid)
-}
-
-#[no_mangle]
-pub extern "C" fn calls_near_end_over(size: u32, x: u32, y: u32) -> u64
-    ensures { λ r. ⌜ r ≡ endsOver size x y .near ⌝ }
-{
-    hall::ends_over(size, x, y).near
-}
-
-#[no_mangle]
-pub extern "C" fn calls_far_end_over(size: u32, x: u32, y: u32) -> u64
-    ensures { λ r. ⌜ r ≡ endsOver size x y .far ⌝ }
-{
-    hall::ends_over(size, x, y).far
-}
-
-// The level of the link is returned, its ends are written; zeros where there is none.
-#[no_mangle]
-pub extern "C" fn calls_first_link(
-    n: u32,
-    k: u32,
-    b: u32,
-    x: u32,
-    y: u32,
-    near: &mut u32,
-    far: &mut u32,
-) -> u32
-    ensures level { λ r. ⌜ r ≡ levelOf (firstLink (hallOf n k b) x y) ⌝ }
-    ensures near { λ _. ⌜ now (near .exit) ≡ nearOf (firstLink (hallOf n k b) x y) ⌝ }
-    ensures far { λ _. ⌜ now (far .exit) ≡ farOf (firstLink (hallOf n k b) x y) ⌝ }
-{
-    match route::first_link(Hall { n, k, b }, x, y) {
+    let a = route::first_link(Hall { n, k, b }, x, y);
+    let link = a.link;
+    match link {
         Crossing::Nothing => {
-            *near = 0;
-            *far = 0;
-            0
+            let words = [0u32, 0u32, 0u32];
+            tell(a.refusal, &words, room)
         }
-        Crossing::Link {
-            near: here,
-            far: there,
-            level,
-        } => {
-            *near = here;
-            *far = there;
-            level
+        Crossing::Link { near, far, level } => {
+            let words = [level, near, far];
+            tell(a.refusal, &words, room)
         }
     }
 }

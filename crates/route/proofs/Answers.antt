@@ -10,7 +10,7 @@ use lib.Pow.{pow-mono}
 use lib.ListN.{length, getD, drop, replicate}
 use lib.Seq.{sets, sets-eq}
 use borrow.Author.Tests.{lt-ltb, le-ltb}
-use Rattle.combine.proofs.Tests.{both-false}
+use Rattle.combine.proofs.Tests.{cases}
 use Rattle.hall.specs.declared.Hall.{Hall}
 use Rattle.hall.specs.declared.Sizes.{Sizes}
 use Rattle.hall.specs.Refusals.{refusal}
@@ -20,9 +20,8 @@ use Rattle.hall.specs.Answers.{sizesOf}
 use Rattle.hall.proofs.Growth.{Valid, valid-known, valid-size, sizes-given, sizes-at}
 use Rattle.hall.proofs.Links.{hall-same}
 use Rattle.route.specs.declared.Crossing.{Crossing}
-use Rattle.route.specs.declared.Crossing.the-variants.{Nothing}
 use Rattle.route.specs.Routes.{route}
-use Rattle.route.specs.Answers.{longest, padded, inHall, noRoute, routeBetween, firstAbove, firstLink}
+use Rattle.route.specs.Answers.{longest, padded, inHall, noRoute, routeBetween, firstAbove, noLink, firstLinkOf, firstLink}
 use Rattle.route.specs.Filling.{perSwitch, Inside, Room}
 use Rattle.route.proofs.Routes.{route-walk, route-length}
 use Rattle.route.proofs.Lists.{walk-starts}
@@ -145,22 +144,31 @@ module _ (h : Hall) (x y : ℕ) where
         rw (n, u) (route-good (G .sound) hx hy)
 
   -- and of the first link
-  pub first-no-hall : valid h ≡ false → Nothing ≡ firstLink h x y
-  unfolding firstLink
+  pub first-no-hall : valid h ≡ false → noLink 1 ≡ firstLinkOf h x y
+  unfolding refusal
   first-no-hall e = rw e
 
-  pub first-no-x : servers h ≤ x → Nothing ≡ firstLink h x y
-  unfolding firstLink
-  first-no-x l = rw (le-ltb x (servers h) l, both-false (valid h) false refl)
+  pub first-no-x : valid h ≡ true → servers h ≤ x → noLink 2 ≡ firstLinkOf h x y
+  unfolding refusal
+  first-no-x e l = rw (e, le-ltb x (servers h) l)
 
-  pub first-no-y : servers h ≤ y → Nothing ≡ firstLink h x y
-  unfolding firstLink
-  first-no-y l = rw (le-ltb y (servers h) l, both-false (ltb x (servers h)) false refl, both-false (valid h) false refl)
+  pub first-no-y : valid h ≡ true → x < servers h → servers h ≤ y → noLink 2 ≡ firstLinkOf h x y
+  unfolding refusal
+  first-no-y e k l = rw (e, lt-ltb x (servers h) k, le-ltb y (servers h) l)
+
+  pub first-found : (sizes : List ℕ) (r : Crossing) → Given h sizes → x < servers h → y < servers h
+      → r ≡ firstAbove (perSwitch sizes) (h .b) (h .k) x y → record { refusal = 0; link = r } ≡ firstLinkOf h x y
+  unfolding refusal
+  first-found sizes r G hx hy e = rw (e, G .at-zero, G .sound, lt-ltb x (servers h) hx, lt-ltb y (servers h) hy)
+
+  -- the link that is told is the first link; nothing where it is refused
+  pub first-told : firstLinkOf h x y .link ≡ firstLink h x y
+  unfolding firstLink refusal
+  first-told =
+      cases (valid h)
+      (λ v. cases (ltb x (servers h)) (λ p. cases (ltb y (servers h)) (λ q. rw (v, p, q)) (λ q. rw (v, p, q))) (λ p. rw (v, p)))
+      (λ v. rw v)
 
   pub first-good : valid h ≡ true → x < servers h → y < servers h → firstAbove (h .n) (h .b) (h .k) x y ≡ firstLink h x y
   unfolding firstLink
   first-good e k l = rw (e, lt-ltb x (servers h) k, lt-ltb y (servers h) l)
-
-  pub first-found : (sizes : List ℕ) (r : Crossing) → Given h sizes → x < servers h → y < servers h
-      → r ≡ firstAbove (perSwitch sizes) (h .b) (h .k) x y → r ≡ firstLink h x y
-  first-found sizes r G hx hy e = e ∙ rw (G .at-zero) (first-good (G .sound) hx hy)

@@ -10,6 +10,7 @@ use Rattle.hall.specs.Refusals.{refusal, answered}
 use Rattle.hall.specs.Halls.{valid, servers, asksHall, asksUid}
 use Rattle.route.specs.declared.Route.{Route}
 use Rattle.route.specs.declared.Crossing.{Crossing}
+use Rattle.route.specs.declared.FirstLink.{FirstLink}
 use Rattle.route.specs.declared.Crossing.the-variants.{Link, Nothing}
 use Rattle.route.specs.Routes.{route, hops, levelOf}
 
@@ -44,7 +45,17 @@ firstAmong n b l (e ∷ r) = pick (ltb b (levelOf n l e)) (Link (e .0) (e .1) (l
 unfoldable pub firstAbove : ℕ → ℕ → ℕ → ℕ → ℕ → Crossing
 firstAbove n b l x y = firstAmong n b l (hops (route n l x y))
 
--- the same in a hall, b being its local level; nothing where there is no such hall or server
+-- the same in a hall, b being its local level: what a refusal answers, and the answer
+abbrev pub noLink : ℕ → FirstLink
+noLink number = record { refusal = number; link = Nothing }
+
+abbrev pub firstLinkOf : Hall → ℕ → ℕ → FirstLink
+firstLinkOf h x y =
+    answered (refusal (asksHall h ∷ asksUid h x ∷ asksUid h y ∷ []))
+    (record { refusal = 0; link = firstAbove (h .n) (h .b) (h .k) x y })
+    noLink
+
+-- and the link alone; nothing where there is no such hall or server
 unfoldable pub firstLink : Hall → ℕ → ℕ → Crossing
 firstLink h x y =
     pick (both (valid h) (both (ltb x (servers h)) (ltb y (servers h)))) (firstAbove (h .n) (h .b) (h .k) x y) Nothing

@@ -7,7 +7,7 @@ ghost use lib.Seq.{sets};
 ghost use Rattle.combine.specs.Tests.{pick};
 ghost use Rattle.hall.specs.Cells.{port};
 ghost use Rattle.route.specs.Routes.{route};
-ghost use Rattle.route.specs.Answers.{longest, noRoute, routeBetween, firstAbove, firstLink};
+ghost use Rattle.route.specs.Answers.{longest, noRoute, routeBetween, firstAbove, noLink, firstLinkOf};
 ghost use Rattle.route.specs.Filling.{inSwitch, perSwitch, Inside, Room};
 use hall::Hall;
 use hall::refusals::BAD_UID;
@@ -26,6 +26,12 @@ pub struct Route {
 pub enum Crossing {
     Link { near: u32, far: u32, level: u32 },
     Nothing,
+}
+
+// The first link of a route above the hall's local level, or nothing; or the refusal.
+pub struct FirstLink {
+    pub refusal: u32,
+    pub link: Crossing,
 }
 
 // Inside sub-cell p, the server that is joined to sub-cell q.
@@ -182,22 +188,33 @@ pub fn route_between(h: Hall, x: u32, y: u32) -> Route
     }
 }
 
-// The first link above the hall's local level of the route from x to y; nothing where there is no such hall or server.
-pub fn first_link(h: Hall, x: u32, y: u32) -> Crossing
-    ensures { λ r. ⌜ r ≡ firstLink h x y ⌝ }
+// A refusal of a first link.
+fn no_link(number: u32) -> FirstLink
+    ensures { λ r. ⌜ r ≡ noLink number ⌝ }
+{
+    FirstLink {
+        refusal: number,
+        link: Crossing::Nothing,
+    }
+}
+
+// The first link above the hall's local level of the route from x to y.
+pub fn first_link(h: Hall, x: u32, y: u32) -> FirstLink
+    ensures { λ r. ⌜ r ≡ firstLinkOf h x y ⌝ }
 {
     let s = hall::sizes_of(h);
     if s.refusal != 0 {
-        return Crossing::Nothing;
+        return no_link(s.refusal);
     }
     let sizes = s.t;
     let k = h.k as usize;
     let servers = sizes[k];
     if servers <= x {
-        return Crossing::Nothing;
+        return no_link(BAD_UID);
     }
     if servers <= y {
-        return Crossing::Nothing;
+        return no_link(BAD_UID);
     }
-    first_above(&sizes, h.b, h.k, x, y)
+    let link = first_above(&sizes, h.b, h.k, x, y);
+    FirstLink { refusal: 0, link }
 }

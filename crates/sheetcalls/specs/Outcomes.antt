@@ -19,6 +19,6 @@ ofCodes s = (sheetOf s .refusal, codesOf s)
 abbrev pub ofPacket : SheetPacket → Outcome
 ofPacket a = (a .refusal, a .source ∷ a .dst ∷ a .retry ∷ a .ttl ∷ [])
 
--- the fields of a packet by their bytes: nothing is refused, and the place is 0
+-- the fields of a packet by their bytes, with its place, which is 0
 abbrev pub ofFields : SheetPacket → Outcome
 ofFields a = (a .refusal, a .place ∷ a .source ∷ a .dst ∷ a .retry ∷ a .ttl ∷ [])

@@ -40,7 +40,7 @@ module _ (s : List ℕ) where
     packet-answered i h l = rw (← read, eq-eqb (r .refusal) 0 h, lt-ltb i (r .packets) l)
 
   -- a packet by its bytes
-  pub packet-short : (i : ℕ) → length s < 11 + value s 7 4 + 4 + 10 * i + 10 → packetRefused 0 0 ≡ packetFields s i
+  pub packet-short : (i : ℕ) → length s < 11 + value s 7 4 + 4 + 10 * i + 10 → packetRefused bad-range 0 ≡ packetFields s i
   unfolding packetPart packetPlace
   packet-short i h = rw (lt-leb (11 + value s 7 4 + 4 + 10 * i + 10) (length s) h)
 

@@ -23,7 +23,7 @@ codesOf s = pick (eqb (sheetOf s .refusal) 0) (codesPart s) []
 abbrev pub packetRefused : ℕ → ℕ → SheetPacket
 packetRefused number place = record { refusal = number; place = place; source = 0; dst = 0; retry = 0; ttl = 0 }
 
--- the ten bytes of a packet at a place; zeros where they are not there
+-- the ten bytes of a packet at a place; 3 where they are not there
 unfoldable pub packetPart : List ℕ → ℕ → SheetPacket
 packetPart s at =
     pick (leb (at + 10) (length s))
@@ -35,7 +35,7 @@ packetPart s at =
       retry = value s (at + 8) 1;
       ttl = value s (at + 9) 1;
     })
-    (packetRefused 0 0)
+    (packetRefused bad-range 0)
 
 abbrev pub packetFields : List ℕ → ℕ → SheetPacket
 packetFields s i = packetPart s (packetPlace s i)

@@ -61,18 +61,18 @@ pub fn codes_of(sheet: &[u8]) -> &[u8]
     codes_part(sheet)
 }
 
-// The fields of packet i by their bytes, for whoever has read the sheet; zeros where they are not there.
+// The fields of packet i by their bytes, for whoever has read the sheet.
 pub fn packet_fields(sheet: &[u8], i: u32) -> SheetPacket
     ensures { λ r. ⌜ r ≡ packetFields (now (sheet .entry)) i ⌝ }
 {
     let length = sheet.len();
     if length < PLACE_CODES {
-        return packet_refused(0, 0);
+        return packet_refused(BAD_RANGE, 0);
     }
     let count = word_at(sheet, PLACE_COUNT) as usize;
     let at = PLACE_CODES + count + 4 + 10 * (i as usize);
     if length < at + 10 {
-        return packet_refused(0, 0);
+        return packet_refused(BAD_RANGE, 0);
     }
     SheetPacket {
         refusal: 0,

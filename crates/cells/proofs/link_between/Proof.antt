@@ -7,10 +7,10 @@ use native.Mathlib.Nat.{div-mul-le-self, mul-le-mul-right}
 use native.Mathlib.Omega.{arith}
 use lib.ListN.{getD}
 use Rattle.hall.specs.declared.Hall.{Hall}
-use Rattle.hall.specs.declared.Ends.{Ends}
+use Rattle.cells.specs.declared.joined.Ends.{Ends}
 use Rattle.hall.specs.Cells.{t, g, subOver, firstOver, endOver, end}
 use Rattle.hall.specs.Halls.{servers, largest}
-use Rattle.hall.specs.Answers.{endsOver}
+use Rattle.cells.specs.Answers.{endsOver}
 use Rattle.hall.proofs.Growth.{g-at, t-next, valid-pos, valid-size, uid-fits, sizes-at}
 use Rattle.hall.proofs.Place.{place-up, place-sub}
 use Rattle.hall.proofs.Links.{end-in}

@@ -26,7 +26,7 @@ use Rattle.forward.proofs.retried.Reads as retried-reads
 use Rattle.forward.proofs.sent.Reads as sent-reads
 use Rattle.forward.proofs.share_cell.Reads as share-cell-reads
 use Rattle.forward.proofs.way_over.Reads as way-over-reads
-use Rattle.route.proofs.first_link.Reads as first-link-reads
+use Rattle.forward.proofs.first_link.Reads as first-link-reads
 use Rattle.forward.proofs.+reroute+step_from.{statement}
 use Rattle.forward.proofs.+reroute+step_from.Tie.{close}
 

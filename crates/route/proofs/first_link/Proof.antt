@@ -1,9 +1,11 @@
 -- `route::first_link` meets its contract: where the hall and both servers are sound, it is what `first_above` finds.
+use mathlib.Core.Path.{_∙_, ap}
 use Prim.Native.Nat.{_<_}
 use native.Mathlib.Omega.{arith}
 use borrow.Author.Needs.{needs}
 use Rattle.hall.specs.Halls.{servers}
 use Rattle.hall.proofs.Growth.{sizes-refused}
+use Rattle.route.specs.Answers.{noLink}
 use Rattle.route.proofs.Answers.{Given, sizes-known, whole-hall, first-no-hall, first-no-x, first-no-y, first-found}
 use Rattle.route.proofs.first_link.Statement.{statement}
 use Rattle.route.proofs.first_link.Tie as tie
@@ -11,11 +13,15 @@ use Rattle.route.proofs.first_link.Tie as tie
 sizes-of-requires : tie.Need-sizes-of-requires
 sizes-of-requires c κs = search needs
 
+no-link-requires : tie.Need-no-link-requires
+no-link-requires c κs = search needs
+
 returns : tie.Need-returns
 returns c =
-    let a = c .before .before .before .args in
-    let s = c .before .before .sizes-of in
-    first-no-hall (a .h) (a .x) (a .y) (sizes-refused (a .h) (s .result) (s .ensures) (c .if1 .taken) .0)
+    let a = c .before .before .before .before .args in
+    let s = c .before .before .before .sizes-of in
+    let k = sizes-refused (a .h) (s .result) (s .ensures) (c .before .if1 .taken) in
+    c .no-link .ensures ∙ ap noLink (k .1) ∙ first-no-hall (a .h) (a .x) (a .y) (k .0)
 
 cast-k : tie.Need-cast-k
 cast-k c = search needs
@@ -31,15 +37,23 @@ given c = let s = c .before .before .before .before .sizes-of in
 array-read-servers : tie.Need-array-read-servers
 array-read-servers c = omega (arith, given c .known .k-high)
 
+no-link-requires-2 : tie.Need-no-link-requires-2
+no-link-requires-2 c κs = search needs
+
 returns-2 : tie.Need-returns-2
 returns-2 c =
-    let a = c .before .before .before .before .before .before .args in
-    first-no-x (a .h) (a .x) (a .y) (omega (arith, given (c .before) .at-k))
+    let a = c .before .before .before .before .before .before .before .args in
+    let g = given (c .before .before) in
+    c .no-link2 .ensures ∙ first-no-x (a .h) (a .x) (a .y) (g .sound) (omega (arith, g .at-k))
+
+no-link-requires-3 : tie.Need-no-link-requires-3
+no-link-requires-3 c κs = search needs
 
 returns-3 : tie.Need-returns-3
 returns-3 c =
-    let a = c .before .before .before .before .before .before .before .args in
-    first-no-y (a .h) (a .x) (a .y) (omega (arith, given (c .before .before) .at-k))
+    let a = c .before .before .before .before .before .before .before .before .args in
+    let g = given (c .before .before .before) in
+    c .no-link3 .ensures ∙ first-no-y (a .h) (a .x) (a .y) (g .sound) (omega (arith, g .at-k)) (omega (arith, g .at-k))
 
 -- both servers are in the hall
 x-fits : (c : tie.Else3) → c .before .before .before .before .before .before .before .args .x < servers (c .before .before .before .before .before .before .before .args .h)
@@ -67,11 +81,14 @@ first-link-spec =
     tie.close
     (tie.spec
     sizes-of-requires
+    no-link-requires
     returns
     cast-k
     mul-servers
     array-read-servers
+    no-link-requires-2
     returns-2
+    no-link-requires-3
     returns-3
     first-above-requires
     returns-4)

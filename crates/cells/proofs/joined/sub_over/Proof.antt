@@ -1,10 +1,10 @@
--- `hall::sub_over` meets its contract: the sub-cell's index is the remainder of its number.
+-- `cells::joined::sub_over` meets its contract: the sub-cell's index is the remainder of its number.
 use borrow.Author.Needs.{needs}
 use native.Mathlib.Nat.{div-le-self}
 use native.Mathlib.Omega.{arith}
-use Rattle.hall.proofs.Wide.{sub-over}
-use Rattle.hall.proofs.sub_over.Statement.{statement}
-use Rattle.hall.proofs.sub_over.Tie as tie
+use Rattle.cells.proofs.Wide.{sub-over}
+use Rattle.cells.proofs.joined.sub_over.Statement.{statement}
+use Rattle.cells.proofs.joined.sub_over.Tie as tie
 
 div-cell : tie.Need-div-cell
 div-cell c = search needs

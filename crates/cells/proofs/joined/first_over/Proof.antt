@@ -1,13 +1,13 @@
--- `hall::first_over` meets its contract: the cell of (T + 1) * T servers is read off the sub-cell's number by one division.
+-- `cells::joined::first_over` meets its contract: the cell of (T + 1) * T servers is read off the sub-cell's number by one division.
 use borrow.Author.Needs.{needs}
 use mathlib.Core.Path.{_≡_, sym, ap}
 use Prim.Native.Nat.{ℕ, _+_, _*_, _/_}
 use native.Mathlib.Nat.{div-le-self}
 use native.Mathlib.Omega.{arith}
 use Rattle.hall.specs.Cells.{firstOver}
-use Rattle.hall.proofs.Wide.{cell-over, cell-fits, first-below}
-use Rattle.hall.proofs.first_over.Statement.{statement}
-use Rattle.hall.proofs.first_over.Tie as tie
+use Rattle.cells.proofs.Wide.{cell-over, cell-fits, first-below}
+use Rattle.cells.proofs.joined.first_over.Statement.{statement}
+use Rattle.cells.proofs.joined.first_over.Tie as tie
 
 first-is : (T u : ℕ) → u / T / (T + 1) * ((T + 1) * T) ≡ firstOver T u
 first-is T u = ap (λ (k : ℕ). k * ((T + 1) * T)) (cell-over T u)

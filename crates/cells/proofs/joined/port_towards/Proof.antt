@@ -1,9 +1,9 @@
--- `hall::port_towards` meets its contract: the code is the definition.
+-- `cells::joined::port_towards` meets its contract: the code is the definition.
 use borrow.Author.Needs.{needs}
 use mathlib.Core.Path.{sym}
 use Rattle.hall.proofs.Place.{port-lt, port-ge}
-use Rattle.hall.proofs.port_towards.Statement.{statement}
-use Rattle.hall.proofs.port_towards.Tie as tie
+use Rattle.cells.proofs.joined.port_towards.Statement.{statement}
+use Rattle.cells.proofs.joined.port_towards.Tie as tie
 
 sub-result : tie.Need-sub-result
 sub-result c = search needs

@@ -1,15 +1,15 @@
--- `hall::ends_over` meets its contract: both ends lie in the cell around x, and of sub-cells of no server nothing is left.
+-- `cells::joined::ends_over` meets its contract: both ends lie in the cell around x, and of sub-cells of no server nothing is left.
 use borrow.Author.Needs.{needs}
 use mathlib.Core.Path.{_≡_, refl, sym, _∙_, ap}
 use Prim.Native.Nat.{ℕ, _+_, _*_, _<_, _≤_}
 use native.Mathlib.Nat.{div-zero}
 use native.Mathlib.Omega.{arith}
 use Rattle.hall.specs.Cells.{port, subOver, firstOver, endOver}
-use Rattle.hall.specs.Answers.{endsOver}
+use Rattle.cells.specs.Answers.{endsOver}
 use Rattle.hall.proofs.Place.{sub-below}
-use Rattle.hall.proofs.Wide.{first-below}
-use Rattle.hall.proofs.ends_over.Statement.{statement}
-use Rattle.hall.proofs.ends_over.Tie as tie
+use Rattle.cells.proofs.Wide.{first-below}
+use Rattle.cells.proofs.joined.ends_over.Statement.{statement}
+use Rattle.cells.proofs.joined.ends_over.Tie as tie
 
 nothing : (T x y : ℕ) → T ≡ 0 → record { near = 0; far = 0 } ≡ endsOver T x y
 unfolding port

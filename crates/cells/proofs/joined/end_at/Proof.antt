@@ -1,11 +1,11 @@
--- `hall::end_at` meets its contract, and its sum fits 64 bits.
+-- `cells::joined::end_at` meets its contract, and its sum fits 64 bits.
 use borrow.Author.Needs.{needs}
 use mathlib.Core.Path.{_≡_, ap}
 use Prim.Native.Nat.{ℕ, _+_, _*_}
 use native.Mathlib.Omega.{arith}
-use Rattle.hall.proofs.Wide.{times-fits, port-below}
-use Rattle.hall.proofs.end_at.Statement.{statement}
-use Rattle.hall.proofs.end_at.Tie as tie
+use Rattle.cells.proofs.Wide.{times-fits, port-below}
+use Rattle.cells.proofs.joined.end_at.Statement.{statement}
+use Rattle.cells.proofs.joined.end_at.Tie as tie
 
 mul-result : tie.Need-mul-result
 mul-result c = omega (arith, times-fits (c .args .p) (c .args .t) (omega arith) (omega arith))

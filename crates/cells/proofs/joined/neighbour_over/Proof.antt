@@ -1,4 +1,4 @@
--- `hall::neighbour_over` meets its contract: it tells the sub-cell from the place inside as the rule of links does.
+-- `cells::joined::neighbour_over` meets its contract: it tells the sub-cell from the place inside as the rule of links does.
 use borrow.Author.Needs.{needs}
 use mathlib.Core.Path.{_≡_, refl, sym, _∙_, ap}
 use Prim.Native.Nat.{ℕ, _+_, _-_, _*_, _/_, _%_, _<_, _≤_}
@@ -6,11 +6,11 @@ use native.Mathlib.Nat.{div-zero, mod-lt, mod-le}
 use native.Mathlib.Omega.{arith}
 use lib.Dec.{leb}
 use borrow.Author.Tests.{le-leb, lt-leb}
 use Rattle.hall.specs.Cells.{subOver, firstOver, neighbourOver}
 use Rattle.hall.proofs.Place.{sub-below}
-use Rattle.hall.proofs.Wide.{first-below, times-fits}
-use Rattle.hall.proofs.neighbour_over.Statement.{statement}
-use Rattle.hall.proofs.neighbour_over.Tie as tie
+use Rattle.cells.proofs.Wide.{first-below, times-fits}
+use Rattle.cells.proofs.joined.neighbour_over.Statement.{statement}
+use Rattle.cells.proofs.joined.neighbour_over.Tie as tie
 
 nothing : (T u : ℕ) → T ≡ 0 → 0 ≡ neighbourOver T u
 nothing T u e = rw (e, div-zero, div-zero, le-leb 0 (u % 0) (omega arith)) (omega arith)
