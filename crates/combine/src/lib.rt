@@ -1,4 +1,1 @@
-// The definitions that loops are stated by, and their laws: specs/ and proofs/ are what this crate is for.
-
-// No call: a crate has at least one function.
-pub fn nothing() {}
+// The definitions that loops are stated by, and their laws: specs/ and proofs/ are what this crate is for, and it has no function.
