@@ -1,5 +1,5 @@
 -- Worked tuples, cells, neighbours and links, computed from the definitions.
--- Section "Bench cases".
+-- Section "The hall and its numbers".
 use mathlib.Core.Path.{_≡_, refl}
 use mathlib.Core.List.{[], _∷_}
 use Prim.Native.Nat.{ℕ}
@@ -18,32 +18,29 @@ two = record { n = 2; k = 2; b = 0 }
 abbrev four : Hall
 four = record { n = 4; k = 1; b = 0 }
 
--- [0,2,1] is 5 and [6,0,1] is 37; place 0 holds a0
-five : uidOf two (1 ∷ 2 ∷ 0 ∷ 0 ∷ []) ≡ record { refusal = 0; uid = 5 }
+-- [1,1,0] is 8; place 0 holds a0
+eight : uidOf two (0 ∷ 1 ∷ 1 ∷ 0 ∷ []) ≡ record { refusal = 0; uid = 8 }
 unfolding refusal valid nFits kFits bFits tupleFits entryFits allBelow limit g uidUpTo t
-five = refl
+eight = refl
 
-thirty-seven : uidOf two (1 ∷ 0 ∷ 6 ∷ 0 ∷ []) ≡ record { refusal = 0; uid = 37 }
+-- a place above k holds 0
+above-k : uidOf two (0 ∷ 1 ∷ 1 ∷ 1 ∷ []) ≡ record { refusal = 3; uid = 0 }
 unfolding refusal valid nFits kFits bFits tupleFits entryFits allBelow limit g uidUpTo t
-thirty-seven = refl
+above-k = refl
 
--- 19 is [4,3], and 20 gets 2
-nineteen : tupleOf four 19 ≡ record { refusal = 0; entries = 3 ∷ 4 ∷ 0 ∷ 0 ∷ [] }
+-- 7 is [1,3]
+seven : tupleOf four 7 ≡ record { refusal = 0; entries = 3 ∷ 1 ∷ 0 ∷ 0 ∷ [] }
 unfolding refusal valid nFits kFits bFits servers upTo entryAt entry sub t
-nineteen = refl
+seven = refl
 
-twenty : tupleOf four 20 ≡ record { refusal = 2; entries = 0 ∷ 0 ∷ 0 ∷ 0 ∷ [] }
-unfolding refusal valid nFits kFits bFits servers t
-twenty = refl
-
--- cells 0 and 4 meet at 3-16; asked from 4: 16-3
-meeting : linkBetween four 0 1 0 4 ≡ record { refusal = 0; from = 3; to = 16 }
+-- cells 1 and 2 meet at 5-9, asked from any server of the hall; a cell does not meet itself
+meeting : linkBetween four 0 1 1 2 ≡ record { refusal = 0; from = 5; to = 9 }
 unfolding refusal valid nFits kFits bFits servers g end port t
 meeting = refl
 
-meeting-turned : linkBetween four 0 1 4 0 ≡ record { refusal = 0; from = 16; to = 3 }
+same-cell : linkBetween four 0 1 2 2 ≡ record { refusal = 3; from = 0; to = 0 }
 unfolding refusal valid nFits kFits bFits servers g end port t
-meeting-turned = refl
+same-cell = refl
 
 neighbours : neighbourOf four 3 1 ≡ record { refusal = 0; uid = 16 }
 unfolding refusal valid nFits kFits bFits servers neighbour t

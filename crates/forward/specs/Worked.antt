@@ -1,16 +1,15 @@
--- Worked journeys, computed from the definitions: n = 4, k = 1, b = 0, from 0.
--- Section "Bench cases".
+-- Worked steps, computed from the definitions: n = 4, k = 1, b = 0, at server 0. The bench's journeys stand in the table of `promises`.
+-- Section "One forwarding step".
 use mathlib.Core.Path.{_≡_, refl}
 use mathlib.Core.Bool.{Bool, true, false}
-use mathlib.Core.List.{List, [], _∷_, _++_, map}
+use mathlib.Core.List.{List, [], _∷_}
 use Prim.Native.Nat.{ℕ}
-use lib.ListN.{replicate}
 use Rattle.combine.specs.Tests.{anyBelow}
 use Rattle.combine.specs.Lists.{upTo}
 use Rattle.hall.specs.declared.Hall.{Hall}
 use Rattle.hall.specs.Cells.{t, cell, same, sub, port, end, near, far, neighbour, lowest}
 use Rattle.hall.specs.Halls.{nFits, kFits, bFits, valid, servers}
-use Rattle.ports.specs.Codes.{codeOf, up, cellLength, run}
+use Rattle.ports.specs.Codes.{codeOf, up}
 use Rattle.ports.specs.Links.{onSwitch, bothUp, joined}
 use Rattle.search.specs.Rounds.{new, mark, marks}
 use Rattle.route.specs.Routes.{route, hops}
@@ -18,51 +17,34 @@ use Rattle.route.specs.Answers.{firstAmong, firstAbove, firstLink}
 use Rattle.local.specs.Lowest.{lowestFrom}
 use Rattle.local.specs.Local.{cellSize, placeOf, firstOf, linked, distancesFrom, distance, nearer, hop}
 use Rattle.forward.specs.declared.Packet.{Packet}
-use Rattle.forward.specs.Packets.{drop-ttl, drop-route, drop-retry, drop-proxy, delivered, isArrived, goal}
+use Rattle.forward.specs.declared.Step.{Step}
+use Rattle.forward.specs.Packets.{forwarded, drop-route, delivered, isArrived, goal}
 use Rattle.forward.specs.Seen.{usable}
 use Rattle.forward.specs.Proxies.{isCandidate, bestBelow, firstFound, choice}
-use Rattle.forward.specs.Steps.{reachable, firstLevel, rerouteOn, stepFrom, stepOn}
-use Rattle.forward.specs.Journeys.{Trip, tripOn, trip}
+use Rattle.forward.specs.Steps.{reachable, firstLevel, rerouteOn, stepFrom, stepOn, step}
 
 hall : Hall
 hall = record { n = 4; k = 1; b = 0 }
 
--- every port up
-allUp : List ℕ
-allUp = replicate 40 1
+-- the table of servers 0 to 3: port 0 of server 1 and port 1 of server 3 are down
+table : List ℕ
+table = 1 ∷ 1 ∷ 2 ∷ 1 ∷ 1 ∷ 1 ∷ 1 ∷ 2 ∷ []
 
--- the night sheet's table, with this code at the bytes 7 and 33
-sheet : ℕ → List ℕ
-sheet code = replicate 7 1 ++ (code ∷ []) ++ replicate 25 1 ++ (code ∷ []) ++ replicate 6 1
+-- dst, proxy, retry, TTL
+packet : ℕ → ℕ → ℕ → ℕ → Packet
+packet dst proxy retry ttl = record { dst = dst; «has_proxy» = true; proxy = proxy; retry = retry; ttl = ttl }
 
-packet : ℕ → ℕ → ℕ → Packet
-packet dst retry ttl = record { dst = dst; «has_proxy» = false; proxy = 0; retry = retry; ttl = ttl }
+-- at its destination a packet is delivered at TTL 0, as it came
+at-dst : step hall table 0 (packet 0 1 5 0) ≡ record { refusal = 0; ending = delivered; next = 0; packet = packet 0 1 5 0; reroutes = 0 }
+unfolding stepOn hall table packet
+at-dst = refl
 
-over : ℕ → ℕ → ℕ → List ℕ → Trip
-over ending links reroutes uids = record { ending = ending; links = links; reroutes = reroutes; uids = uids }
+-- to 19 by way of proxy 1, which can't be reached: it is cleared; the link 3-16 is out, so a new proxy is set, the neighbour of 0 itself
+two-reroutes : step hall table 0 (packet 19 1 5 15) ≡ record { refusal = 0; ending = forwarded; next = 4; packet = packet 19 4 3 14; reroutes = 2 }
+unfolding anyBelow upTo t cell same sub port end near far neighbour lowest nFits kFits bFits valid servers codeOf up onSwitch bothUp joined new mark marks route hops firstAmong firstAbove firstLink lowestFrom cellSize placeOf firstOf linked distancesFrom distance nearer hop isArrived goal usable isCandidate bestBelow firstFound choice reachable firstLevel rerouteOn stepFrom stepOn hall table packet
+two-reroutes = refl
 
--- a journey asked: the hall table, dst, retry, TTL
-abbrev pub Asked : Type 0
-Asked = List ℕ × ℕ × ℕ × ℕ
-
-pub answer : Asked → Trip
-answer a = trip hall (a .0) 0 (packet (a .1) (a .2) (a .3))
-
-pub asked : List Asked
-asked =
-    (allUp, 19, 5, 3) ∷ (allUp, 19, 5, 2)
-    ∷ (sheet 2, 19, 5, 15) ∷ (sheet 2, 19, 2, 15) ∷ (sheet 2, 19, 1, 15)
-    ∷ (sheet 7, 19, 5, 15) ∷ (sheet 7, 19, 2, 15) ∷ (sheet 7, 19, 1, 15)
-    ∷ (replicate 40 0, 1, 5, 15) ∷ (replicate 40 0, 19, 5, 15) ∷ []
-
-pub answers : List Trip
-answers =
-    over delivered 3 0 (0 ∷ 3 ∷ 16 ∷ 19 ∷ []) ∷ over drop-ttl 2 0 (0 ∷ 3 ∷ 16 ∷ [])
-    ∷ over delivered 4 1 (0 ∷ 4 ∷ 7 ∷ 17 ∷ 19 ∷ []) ∷ over delivered 4 1 (0 ∷ 4 ∷ 7 ∷ 17 ∷ 19 ∷ []) ∷ over drop-retry 0 0 (0 ∷ [])
-    ∷ over delivered 4 1 (0 ∷ 4 ∷ 7 ∷ 17 ∷ 19 ∷ []) ∷ over delivered 4 1 (0 ∷ 4 ∷ 7 ∷ 17 ∷ 19 ∷ []) ∷ over drop-retry 0 0 (0 ∷ [])
-    ∷ over drop-route 0 0 (0 ∷ []) ∷ over drop-proxy 0 0 (0 ∷ []) ∷ []
-
--- all up, TTL 3 and 2; code 2 in two places, retry 5, 2 and 1; code 7 there, the same; all codes 0, to 1 and to 19
-pub journeys : map answer asked ≡ answers
-unfolding anyBelow upTo t cell same sub port end near far neighbour lowest nFits kFits bFits valid servers codeOf up cellLength run onSwitch bothUp joined new mark marks route hops firstAmong firstAbove firstLink lowestFrom cellSize placeOf firstOf linked distancesFrom distance nearer hop isArrived goal usable isCandidate bestBelow firstFound choice reachable firstLevel rerouteOn stepFrom stepOn tripOn hall allUp sheet packet over answer asked answers
-journeys = refl
+-- dst in the own cell, and the proxy out of reach: drop 2, though dst could be reached
+no-route : step hall table 0 (packet 2 1 5 15) ≡ record { refusal = 0; ending = drop-route; next = 0; packet = packet 2 1 5 15; reroutes = 0 }
+unfolding anyBelow upTo t cell same sub port end near far neighbour lowest nFits kFits bFits valid servers codeOf up onSwitch bothUp joined new mark marks route hops firstAmong firstAbove firstLink lowestFrom cellSize placeOf firstOf linked distancesFrom distance nearer hop isArrived goal usable isCandidate bestBelow firstFound choice reachable firstLevel rerouteOn stepFrom stepOn hall table packet
+no-route = refl

@@ -1,5 +1,5 @@
 -- Worked sizes of halls, computed from the definitions.
--- Section "Bench cases".
+-- Section "The hall and its numbers".
 use mathlib.Core.Path.{_≡_, refl}
 use mathlib.Core.List.{[], _∷_}
 use Rattle.combine.specs.Lists.{upTo}
@@ -8,9 +8,15 @@ use Rattle.hall.specs.Cells.{t}
 use Rattle.hall.specs.Halls.{nFits, kFits, bFits, valid, servers}
 use Rattle.hall.specs.Answers.{sizeAt, sizesOf}
 
-sizes-of-four : sizesOf (record { n = 4; k = 3; b = 0 }) ≡ record { refusal = 0; t = 4 ∷ 20 ∷ 420 ∷ 176820 ∷ [] }
+-- zeros above k
+sizes-of-two : sizesOf (record { n = 2; k = 2; b = 1 }) ≡ record { refusal = 0; t = 2 ∷ 6 ∷ 42 ∷ 0 ∷ [] }
 unfolding refusal valid nFits kFits bFits upTo sizeAt t
-sizes-of-four = refl
+sizes-of-two = refl
+
+-- b is at most k
+no-such-hall : sizesOf (record { n = 2; k = 0; b = 1 }) ≡ record { refusal = 1; t = 0 ∷ 0 ∷ 0 ∷ 0 ∷ [] }
+unfolding refusal valid nFits kFits bFits
+no-such-hall = refl
 
 largest-hall : servers (record { n = 8; k = 3; b = 0 }) ≡ 27630792
 unfolding servers t

@@ -1,5 +1,5 @@
 -- Worked values of routes, computed.
--- Section "Bench cases".
+-- Section "Route without failures".
 use mathlib.Core.Path.{_≡_, refl}
 use mathlib.Core.List.{List, [], _∷_, map}
 use Prim.Native.Nat.{ℕ}
@@ -10,19 +10,13 @@ use Rattle.route.specs.declared.Crossing.the-variants.{Link}
 use Rattle.route.specs.Routes.{route, hops}
 use Rattle.route.specs.Answers.{padded, inHall, routeBetween, firstAmong, firstAbove, firstLink}
 
--- n = 2, k = 2, 5 to 11; its third server is [0,0,1]
-pub route-5-11 : route 2 2 5 11 ≡ 5 ∷ 4 ∷ 1 ∷ 0 ∷ 6 ∷ 7 ∷ 10 ∷ 11 ∷ []
-unfolding route same near far end port sub cell t
-route-5-11 = refl
-
--- routes asked as (n, k, x, y): the worked one, the bench's journey, a server to itself, the two ends of the largest hall
+-- routes asked as (n, k, x, y): one with a single link above the switch, a server to itself, the two ends of the largest hall
 abbrev pub asked : List (ℕ × ℕ × ℕ × ℕ)
-asked = (2, 2, 5, 11) ∷ (4, 1, 0, 19) ∷ (4, 1, 7, 7) ∷ (8, 3, 0, 27630791) ∷ []
+asked = (4, 1, 0, 19) ∷ (4, 1, 7, 7) ∷ (8, 3, 0, 27630791) ∷ []
 
 abbrev pub answers : List (List ℕ)
 answers =
-    (5 ∷ 4 ∷ 1 ∷ 0 ∷ 6 ∷ 7 ∷ 10 ∷ 11 ∷ [])
-    ∷ (0 ∷ 3 ∷ 16 ∷ 19 ∷ [])
+    (0 ∷ 3 ∷ 16 ∷ 19 ∷ [])
     ∷ (7 ∷ [])
     ∷ (0 ∷ 7 ∷ 64 ∷ 71 ∷ 5184 ∷ 5191 ∷ 5248 ∷ 5255 ∷ 27625536 ∷ 27625543 ∷ 27625600 ∷ 27625607 ∷ 27630720 ∷ 27630727 ∷ 27630784 ∷ 27630791 ∷ [])
     ∷ []
@@ -32,10 +26,10 @@ unfolding route same near far end port sub cell t
 routes = refl
 
 -- the answer of the call, zeros behind the uids
-pub route-between-5-11 : routeBetween (record { n = 2; k = 2; b = 0 }) 5 11
-    ≡ record { refusal = 0; links = 7; uids = 5 ∷ 4 ∷ 1 ∷ 0 ∷ 6 ∷ 7 ∷ 10 ∷ 11 ∷ 0 ∷ 0 ∷ 0 ∷ 0 ∷ 0 ∷ 0 ∷ 0 ∷ 0 ∷ [] }
+pub route-between-0-19 : routeBetween (record { n = 4; k = 1; b = 0 }) 0 19
+    ≡ record { refusal = 0; links = 3; uids = 0 ∷ 3 ∷ 16 ∷ 19 ∷ 0 ∷ 0 ∷ 0 ∷ 0 ∷ 0 ∷ 0 ∷ 0 ∷ 0 ∷ 0 ∷ 0 ∷ 0 ∷ 0 ∷ [] }
 unfolding padded inHall route same near far end port sub cell t valid nFits kFits bFits servers refusal
-route-between-5-11 = refl
+route-between-0-19 = refl
 
 -- 20 is no server of the hall of n = 4, k = 1
 pub route-between-20 : routeBetween (record { n = 4; k = 1; b = 0 }) 0 20
@@ -43,7 +37,7 @@ pub route-between-20 : routeBetween (record { n = 4; k = 1; b = 0 }) 0 20
 unfolding padded inHall route same near far end port sub cell t valid nFits kFits bFits servers refusal
 route-between-20 = refl
 
--- the first link above level 0 and above level 1 of the worked route
+-- the first link above level 0 and above level 1, in the hall of n = 2, k = 2
 pub first-5-11 : (firstLink (record { n = 2; k = 2; b = 0 }) 5 11 ≡ Link 4 1 1) × (firstLink (record { n = 2; k = 2; b = 1 }) 5 11 ≡ Link 0 6 2)
 unfolding firstLink firstAbove firstAmong hops lowest route same near far end port sub cell t valid nFits kFits bFits servers
 first-5-11 = (refl, refl)
