@@ -10,7 +10,7 @@ use lib.Dec.{leb}
 use borrow.Author.Tests.{leb-true}
 use mathlib.Core.Bool.{Bool, true, false}
 use Rattle.report.specs.declared.Written.{Written}
-use Rattle.report.specs.Rooms.{put, line-room, roomy, writtenOf, roomOf}
+use Rattle.report.specs.Rooms.{put, roomy, writtenOf, roomOf}
 
 module _ (room : List ℕ) (at : ℕ) where
   pub put-none : put room at [] ≡ room
@@ -72,18 +72,22 @@ pub byte-next : (room : List ℕ) (at : ℕ) (a : List ℕ) (r : ℕ) (l : List 
 byte-next room at a r l byte e h =
     (omega (arith, e .0, length-append a (byte ∷ [])), rw (e .1) (put-byte room at a byte r (e .0) h))
 
--- a line that is refused, and one that is written
-pub line-short : (room : List ℕ) (at : ℕ) (text : List ℕ) (t : Bool) → t ≡ leb (at + line-room) (length room) → t ≡ false
+-- a line that is refused, and one that is written, by the test of the room
+pub line-short : (room : List ℕ) (at : ℕ) (text : List ℕ) (t : Bool) → t ≡ leb (at + length text) (length room) → t ≡ false
     → (_≡_ {A = Written} (record { refusal = 6; end = 0 }) (writtenOf room at text)) × (room ≡ roomOf room at text)
 unfolding roomy
 line-short room at text t e f = (rw (← e, f), rw (← e, f))
 
-pub line-written : (room : List ℕ) (at : ℕ) (text : List ℕ) (t : Bool) → t ≡ leb (at + line-room) (length room) → t ≡ true
+pub line-written : (room : List ℕ) (at : ℕ) (text : List ℕ) (t : Bool) → t ≡ leb (at + length text) (length room) → t ≡ true
     → (end : ℕ) (l : List ℕ) → (end ≡ at + length text) × (l ≡ put room at text)
     → (_≡_ {A = Written} (record { refusal = 0; end = end }) (writtenOf room at text)) × (l ≡ roomOf room at text)
 unfolding roomy
 line-written room at text t e f end l w = (rw (← e, f, w .0), rw (← e, f) (w .1))
 
 -- the room behind the place of a line
-pub line-fits : (room : List ℕ) (at : ℕ) (t : Bool) → t ≡ leb (at + line-room) (length room) → t ≡ true → at + 2877 ≤ length room
-line-fits room at t e f = leb-true (at + line-room) (length room) (sym e ∙ f)
+pub line-fits : (room : List ℕ) (at : ℕ) (text : List ℕ) (t : Bool) → t ≡ leb (at + length text) (length room) → t ≡ true → at + length text ≤ length room
+line-fits room at text t e f = leb-true (at + length text) (length room) (sym e ∙ f)
+
+-- a test by a length is the test by what has it
+pub by-length : (at wanted : ℕ) (text room : List ℕ) (t : Bool) → wanted ≡ length text → t ≡ leb (at + wanted) (length room) → t ≡ leb (at + length text) (length room)
+by-length at wanted text room t e f = rw (← e) f

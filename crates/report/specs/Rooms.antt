@@ -13,20 +13,20 @@ use Rattle.report.specs.declared.Written.{Written}
 unfoldable pub put : List ℕ → ℕ → List ℕ → List ℕ
 put room at text = take at room ++ text ++ drop (at + length text) room
 
--- the room that any line wants: the longest has four numbers of 10 digits with a space, an ending of 15 bytes, a colon, 256 uids
--- of 10 digits with a space, and a newline
+-- the longest line that there is: four numbers of 10 digits with a space, an ending of 15 bytes, a colon, 256 uids of 10 digits with
+-- a space, and a newline
 abbrev pub line-room : ℕ
 line-room = 2877
 
--- the room has this much behind a place
-unfoldable pub roomy : List ℕ → ℕ → Bool
-roomy room at = leb (at + line-room) (length room)
+-- the room is as long as what would be written at a place
+unfoldable pub roomy : List ℕ → ℕ → List ℕ → Bool
+roomy room at text = leb (at + length text) (length room)
 
 -- the place behind what was written, or the refusal
 abbrev pub writtenOf : List ℕ → ℕ → List ℕ → Written
 writtenOf room at text =
-    pick (roomy room at) (record { refusal = 0; end = at + length text }) (record { refusal = short-room; end = 0 })
+    pick (roomy room at text) (record { refusal = 0; end = at + length text }) (record { refusal = short-room; end = 0 })
 
 -- the room at exit: as it was where the line is refused
 abbrev pub roomOf : List ℕ → ℕ → List ℕ → List ℕ
-roomOf room at text = pick (roomy room at) (put room at text) room
+roomOf room at text = pick (roomy room at text) (put room at text) room

@@ -1,9 +1,12 @@
--- Worked values: the three lines of the night sheet's example, and the edges of a decimal number.
--- Section "The night sheet".
+-- Worked values: the three lines of the night sheet's example, the edges of a decimal number, and of a room.
+-- Sections "The night sheet" and "Refusal numbers".
 use mathlib.Core.Path.{_≡_, refl}
+use mathlib.Core.Bool.{Bool, true, false}
 use mathlib.Core.List.{List, [], _∷_, _++_}
+use lib.ListN.{replicate}
 use Rattle.forward.specs.Packets.{delivered}
 use Rattle.report.specs.Texts.{digitsWithin, decimal, numberWith, hallLine, refusedLine, endLine, endingText, uidsText, packetHead, packetLine}
+use Rattle.report.specs.Rooms.{roomy}
 
 zero-digit : decimal 0 ≡ 48 ∷ []
 unfolding decimal digitsWithin
@@ -43,3 +46,12 @@ refused = refl
 drop-three : endingText 3 ≡ 68 ∷ 82 ∷ 79 ∷ 80 ∷ 51 ∷ 32 ∷ []
 unfolding endingText numberWith decimal digitsWithin
 drop-three = refl
+
+-- END 1 has six bytes: a room of seven has them from place 1 on, and none from place 2 on
+exact-fit : roomy (replicate 7 0) 1 (endLine 1) ≡ true
+unfolding roomy endLine numberWith decimal digitsWithin
+exact-fit = refl
+
+one-byte-short : roomy (replicate 7 0) 2 (endLine 1) ≡ false
+unfolding roomy endLine numberWith decimal digitsWithin
+one-byte-short = refl

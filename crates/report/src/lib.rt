@@ -1,20 +1,25 @@
 // The trace's text, line by line, written to lent room.
+mod lengths;
 mod puts;
 
 ghost use mathlib.Core.Path.{_≡_};
 ghost use lib.ListN.{length};
 ghost use Rattle.report.specs.Texts.{hallLine, refusedLine, endLine, packetLine};
 ghost use Rattle.report.specs.Rooms.{writtenOf, roomOf};
-use crate::puts::passed;
+use crate::lengths::end_length;
+use crate::lengths::hall_length;
+use crate::lengths::packet_fits;
+use crate::lengths::passed;
+use crate::lengths::refused_length;
+use crate::lengths::room_behind;
 use crate::puts::put_bytes;
 use crate::puts::put_packet;
 use crate::puts::put_uids;
 use crate::puts::put_with;
-use crate::puts::room_behind;
 use hall::Hall;
 use hall::refusals::SHORT_ROOM;
 
-// The room that any line wants from its place on.
+// The room that the longest line wants from its place on.
 pub const LINE_ROOM: usize = 2877;
 
 const SPACE: u8 = 32;
@@ -41,7 +46,7 @@ pub fn hall_line(room: &mut [u8], at: usize, h: Hall) -> Written
     ensures answer { λ r. ⌜ r ≡ writtenOf (now (room .entry)) at (hallLine h) ⌝ }
     ensures room { λ _. ⌜ now (room .exit) ≡ roomOf (now (room .entry)) at (hallLine h) ⌝ }
 {
-    if !room_behind(room.len(), at) {
+    if !room_behind(room.len(), at, hall_length(h)) {
         return Written {
             refusal: SHORT_ROOM,
             end: 0,
@@ -59,7 +64,7 @@ pub fn refused_line(room: &mut [u8], at: usize, number: u32, place: u32) -> Writ
     ensures answer { λ r. ⌜ r ≡ writtenOf (now (room .entry)) at (refusedLine number place) ⌝ }
     ensures room { λ _. ⌜ now (room .exit) ≡ roomOf (now (room .entry)) at (refusedLine number place) ⌝ }
 {
-    if !room_behind(room.len(), at) {
+    if !room_behind(room.len(), at, refused_length(number, place)) {
         return Written {
             refusal: SHORT_ROOM,
             end: 0,
@@ -76,7 +81,7 @@ pub fn end_line(room: &mut [u8], at: usize, packets: u32) -> Written
     ensures answer { λ r. ⌜ r ≡ writtenOf (now (room .entry)) at (endLine packets) ⌝ }
     ensures room { λ _. ⌜ now (room .exit) ≡ roomOf (now (room .entry)) at (endLine packets) ⌝ }
 {
-    if !room_behind(room.len(), at) {
+    if !room_behind(room.len(), at, end_length(packets)) {
         return Written {
             refusal: SHORT_ROOM,
             end: 0,
@@ -92,7 +97,7 @@ pub fn packet_line(room: &mut [u8], at: usize, p: PacketReport, uids: &[u32]) ->
     ensures answer { λ r. ⌜ r ≡ writtenOf (now (room .entry)) at (packetLine p (now (uids .entry))) ⌝ }
     ensures room { λ _. ⌜ now (room .exit) ≡ roomOf (now (room .entry)) at (packetLine p (now (uids .entry))) ⌝ }
 {
-    if !room_behind(room.len(), at) {
+    if !packet_fits(room.len(), at, p, uids) {
         return Written {
             refusal: SHORT_ROOM,
             end: 0,

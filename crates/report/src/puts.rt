@@ -1,11 +1,9 @@
 // The parts of a line, each written at a place of a room that has enough behind it; answered is the next place.
 ghost use mathlib.Core.Path.{_≡_};
-ghost use Prim.Native.Nat.{min, _+_, _*_, _≤_};
-ghost use lib.Dec.{leb};
+ghost use Prim.Native.Nat.{_+_, _≤_};
 ghost use lib.ListN.{length, take};
 ghost use Rattle.report.specs.Texts.{decimal, numberWith, endingText, packetHead, uidsText};
-ghost use Rattle.report.specs.Rooms.{put, line-room};
-use crate::LINE_ROOM;
+ghost use Rattle.report.specs.Rooms.{put};
 use crate::PacketReport;
 use forward::endings::DELIVERED;
 
@@ -14,16 +12,6 @@ const DIGIT_ZERO: u32 = 48;
 const SPACE: u8 = 32;
 
 const COLON: u8 = 58;
-
-// Whether a room of a length has room for any line from a place on.
-pub(crate) fn room_behind(length: usize, at: usize) -> bool
-    ensures { λ r. ⌜ r ≡ leb (at + line-room) length ⌝ }
-{
-    if length < LINE_ROOM {
-        return false;
-    }
-    at <= length - LINE_ROOM
-}
 
 // A text.
 pub(crate) fn put_bytes(room: &mut [u8], at: usize, text: &[u8]) -> usize
@@ -56,7 +44,7 @@ pub(crate) fn put_number(room: &mut [u8], at: usize, v: u32) -> usize
 
 // A number in decimal with a byte behind it.
 pub(crate) fn put_with(room: &mut [u8], at: usize, v: u32, behind: u8) -> usize
-    requires { ⌜ at + 11 ≤ length (now room) ⌝ }
+    requires { ⌜ at + length (numberWith behind v) ≤ length (now room) ⌝ }
     ensures next { λ r. ⌜ r ≡ at + length (numberWith behind v) ⌝ }
     ensures room { λ _. ⌜ now (room .exit) ≡ put (now (room .entry)) at (numberWith behind v) ⌝ }
 {
@@ -67,7 +55,7 @@ pub(crate) fn put_with(room: &mut [u8], at: usize, v: u32, behind: u8) -> usize
 
 // An ending: DELIVERED, or DROP and its number.
 pub(crate) fn put_ending(room: &mut [u8], at: usize, ending: u32) -> usize
-    requires { ⌜ at + 15 ≤ length (now room) ⌝ }
+    requires { ⌜ at + length (endingText ending) ≤ length (now room) ⌝ }
     ensures next { λ r. ⌜ r ≡ at + length (endingText ending) ⌝ }
     ensures room { λ _. ⌜ now (room .exit) ≡ put (now (room .entry)) at (endingText ending) ⌝ }
 {
@@ -80,7 +68,7 @@ pub(crate) fn put_ending(room: &mut [u8], at: usize, ending: u32) -> usize
 
 // So many uids from the first on, a space before each.
 pub(crate) fn put_uids(room: &mut [u8], at: usize, uids: &[u32], count: usize) -> usize
-    requires { ⌜ (at + 2816 ≤ length (now room)) × (count ≤ 256) × (count ≤ length (now uids)) ⌝ }
+    requires { ⌜ (at + length (uidsText (take count (now uids))) ≤ length (now room)) × (count ≤ length (now uids)) ⌝ }
     ensures next { λ r. ⌜ r ≡ at + length (uidsText (take count (now (uids .entry)))) ⌝ }
     ensures room { λ _. ⌜ now (room .exit) ≡ put (now (room .entry)) at (uidsText (take count (now (uids .entry)))) ⌝ }
 {
@@ -94,29 +82,9 @@ pub(crate) fn put_uids(room: &mut [u8], at: usize, uids: &[u32], count: usize) -
     next
 }
 
-// The smaller of two numbers.
-fn smaller(a: usize, b: usize) -> usize
-    ensures { λ r. ⌜ r ≡ min a b ⌝ }
-{
-    if a < b {
-        return a;
-    }
-    b
-}
-
-// How many uids there are to tell of a packet that crossed so many links: at most 256, and no more than are given.
-pub(crate) fn passed(links: u32, given: usize) -> usize
-    ensures { λ r. ⌜ r ≡ min (min (links + 1) 256) given ⌝ }
-{
-    if links < 255 {
-        return smaller(links as usize + 1, given);
-    }
-    smaller(256, given)
-}
-
 // A packet's line up to its colon.
 pub(crate) fn put_packet(room: &mut [u8], at: usize, p: PacketReport) -> usize
-    requires { ⌜ at + 60 ≤ length (now room) ⌝ }
+    requires { ⌜ at + length (packetHead p) ≤ length (now room) ⌝ }
     ensures next { λ r. ⌜ r ≡ at + length (packetHead p) ⌝ }
     ensures room { λ _. ⌜ now (room .exit) ≡ put (now (room .entry)) at (packetHead p) ⌝ }
 {

@@ -1,4 +1,4 @@
--- `report::puts::put_packet` meets its contract: each part stands behind the one before it, and none is longer than its bound.
+-- `report::puts::put_packet` meets its contract: each part stands behind the one before it, and the room is as long as they are together.
 use mathlib.Core.Path.{_≡_, _∙_}
 use mathlib.Core.List.{_++_}
 use Prim.Native.Nat.{_≤_}
@@ -6,35 +6,19 @@ use native.Mathlib.Omega.{arith}
 use lib.ListN.{length, length-set}
 use Rattle.report.specs.Texts.{space, colon, numberWith, endingText, packetHead}
 use Rattle.report.proofs.Rooms.{put-next, byte-next}
-use Rattle.report.proofs.Texts.{with-fits, ending-fits}
+use Rattle.report.proofs.Texts.{head-parts}
 use Rattle.report.proofs.puts.put_packet.Statement.{statement}
 use Rattle.report.proofs.puts.put_packet.Tie as tie
 
--- how long each part can be
-source-bound : (s : tie.Start) → length (numberWith space (s .args .p .source)) ≤ 11
-source-bound s = with-fits space (s .args .p .source) (omega arith)
-
-dst-bound : (s : tie.Start) → length (numberWith space (s .args .p .dst)) ≤ 11
-dst-bound s = with-fits space (s .args .p .dst) (omega arith)
-
-ending-bound : (s : tie.Start) → length (endingText (s .args .p .ending)) ≤ 15
-ending-bound s = ending-fits (s .args .p .ending) (omega arith)
-
-links-bound : (s : tie.Start) → length (numberWith space (s .args .p .links)) ≤ 11
-links-bound s = with-fits space (s .args .p .links) (omega arith)
-
-reroutes-bound : (s : tie.Start) → length (numberWith space (s .args .p .reroutes)) ≤ 11
-reroutes-bound s = with-fits space (s .args .p .reroutes) (omega arith)
-
 put-with-requires : tie.Need-put-with-requires
 put-with-requires c κs =
-    omega arith
+    omega (arith, head-parts (c .before .before .args .p))
 
 put-with-requires-2 : tie.Need-put-with-requires-2
 put-with-requires-2 c κs =
     let s = c .before .before .before .before .before .before in
     let w0 = c .before .before .before .put-with in
-    omega (arith, s .pre, w0 .ensures .0, w0 .kept .0, source-bound s)
+    omega (arith, s .pre, head-parts (s .args .p), w0 .ensures .0, w0 .kept .0)
 
 put-ending-requires : tie.Need-put-ending-requires
 put-ending-requires c κs =
@@ -44,12 +28,11 @@ put-ending-requires c κs =
     omega (
       arith,
       s .pre,
+      head-parts (s .args .p),
       w0 .ensures .0,
       w0 .kept .0,
-      source-bound s,
       w1 .ensures .0,
       w1 .kept .0,
-      dst-bound s,
     )
 
 put-with-requires-3 : tie.Need-put-with-requires-3
@@ -61,15 +44,13 @@ put-with-requires-3 c κs =
     omega (
       arith,
       s .pre,
+      head-parts (s .args .p),
       w0 .ensures .0,
       w0 .kept .0,
-      source-bound s,
       w1 .ensures .0,
       w1 .kept .0,
-      dst-bound s,
       w2 .ensures .0,
       w2 .kept .0,
-      ending-bound s,
     )
 
 put-with-requires-4 : tie.Need-put-with-requires-4
@@ -82,18 +63,15 @@ put-with-requires-4 c κs =
     omega (
       arith,
       s .pre,
+      head-parts (s .args .p),
       w0 .ensures .0,
       w0 .kept .0,
-      source-bound s,
       w1 .ensures .0,
       w1 .kept .0,
-      dst-bound s,
       w2 .ensures .0,
       w2 .kept .0,
-      ending-bound s,
       w3 .ensures .0,
       w3 .kept .0,
-      links-bound s,
     )
 
 slice-write-room : tie.Need-slice-write-room
@@ -107,21 +85,17 @@ slice-write-room c =
     omega (
       arith,
       s .pre,
+      head-parts (s .args .p),
       w0 .ensures .0,
       w0 .kept .0,
-      source-bound s,
       w1 .ensures .0,
       w1 .kept .0,
-      dst-bound s,
       w2 .ensures .0,
       w2 .kept .0,
-      ending-bound s,
       w3 .ensures .0,
       w3 .kept .0,
-      links-bound s,
       w4 .ensures .0,
       w4 .kept .0,
-      reroutes-bound s,
     )
 
 add-result : tie.Need-add-result
@@ -135,21 +109,17 @@ add-result c =
     omega (
       arith,
       s .pre,
+      head-parts (s .args .p),
       w0 .ensures .0,
       w0 .kept .0,
-      source-bound s,
       w1 .ensures .0,
       w1 .kept .0,
-      dst-bound s,
       w2 .ensures .0,
       w2 .kept .0,
-      ending-bound s,
       w3 .ensures .0,
       w3 .kept .0,
-      links-bound s,
       w4 .ensures .0,
       w4 .kept .0,
-      reroutes-bound s,
     )
 
 same-length : tie.Need-same-length
@@ -167,16 +137,12 @@ returns c =
     let s = c .before .before .before .before .before .before .before .before .before .before .before .before .before .before .before .before .before .before .before .before .before in
     let a = s .args in
     let l = s .pre in
+    let f = head-parts (s .args .p) in
     let w0 = c .before .before .before .before .before .before .before .before .before .before .before .before .before .before .before .before .before .before .put-with in
     let w1 = c .before .before .before .before .before .before .before .before .before .before .before .before .before .before .put-with2 in
     let w2 = c .before .before .before .before .before .before .before .before .before .before .put-ending in
     let w3 = c .before .before .before .before .before .before .put-with3 in
     let w4 = c .before .before .put-with4 in
-    let b0 = source-bound s in
-    let b1 = dst-bound s in
-    let b2 = ending-bound s in
-    let b3 = links-bound s in
-    let b4 = reroutes-bound s in
     let t1 = put-next (a .room .now) (a .at) (numberWith space (a .p .source)) (numberWith space (a .p .dst))
     (w0 .result) (w1 .result) (w0 .last .0) (w1 .last .0) (w0 .ensures) (w1 .ensures) (omega (arith, w0 .ensures .0)) in
     let t2 = put-next (a .room .now) (a .at) (numberWith space (a .p .source) ++ numberWith space (a .p .dst)) (endingText (a .p .ending))
