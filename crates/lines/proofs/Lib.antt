@@ -1,3 +1,5 @@
 -- The laws.
 pub mod Openings
 pub mod Journeys
+pub mod Lines
+pub mod Pieces

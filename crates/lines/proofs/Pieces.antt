@@ -1,0 +1,199 @@
+-- Laws of a piece of the trace: the lines in the room so far, and what the call then answers.
+use mathlib.Core.Path.{_≡_, refl, sym, _∙_, ap}
+use mathlib.Core.Bool.{Bool, true, false}
+use mathlib.Core.List.{List, [], _∷_, _++_}
+use Prim.Native.Nat.{ℕ, zero, suc, _+_, _-_, _*_, _≤_, _<_}
+use native.Mathlib.Omega.{arith}
+use lib.Dec.{eqb, leb, ltb}
+use lib.ListN.{length, length-append}
+use borrow.Author.Tests.{eq-eqb, ne-eqb, lt-ltb, le-ltb, le-leb, lt-leb, leb-true, leb-false, ltb-true, ltb-false, eqb-true, eqb-false}
+use Rattle.combine.specs.Tests.{pick}
+use Rattle.combine.proofs.Tests.{cases}
+use Rattle.hall.specs.Refusals.{refusal, bad-range, short-room}
+use Rattle.sheet.specs.declared.Sheet.{Sheet}
+use Rattle.sheet.specs.Answers.{sheetOf, packetPlace}
+use Rattle.sheet.specs.Accepted.{packetCountOf}
+use Rattle.sheet.proofs.Held.{accepted-holds, holds-accepted}
+use Rattle.report.specs.declared.Written.{Written}
+use Rattle.report.specs.Rooms.{put, roomy, writtenOf, roomOf}
+use Rattle.report.proofs.Rooms.{put-none, put-put, length-put}
+use Rattle.lines.specs.declared.Piece.{Piece}
+use Rattle.lines.specs.Traces.{lineCount, lineText, linesText, fitting, fittingText, fittingPiece, pieceRefusal, pieceOf, roomPiece}
+use Rattle.lines.proofs.Lines.{count-refused, count-accepted, lines-none, lines-more, fitting-more, fitting-full, fitting-none, fitting-within, fitting-length}
+
+-- an accepted sheet has few packets
+pub few-packets : (s : List ℕ) → sheetOf s .refusal ≡ 0 → sheetOf s .packets ≤ 65536
+unfolding packetPlace
+few-packets s ok =
+    let a = accepted-holds s ok in
+    omega (arith, ap (λ (x : Sheet). x .packets) (holds-accepted s a), a .whole, a .short)
+
+-- what is known of a line that was written, and of one that the room was short for
+module _ (room : List ℕ) (at : ℕ) (text : List ℕ) (w : Written) (last : List ℕ) (e : (w ≡ writtenOf room at text) × (last ≡ roomOf room at text)) where
+  pub written-there : w .refusal ≡ 0 → (at + length text ≤ length room) × (w .end ≡ at + length text) × (last ≡ put room at text)
+  unfolding roomy
+  written-there z =
+      cases (leb (at + length text) (length room))
+      (λ q. (leb-true (at + length text) (length room) q, ap (λ (x : Written). x .end) (rw q at (e .0)), rw q at (e .1)))
+      (λ q. absurd (omega (arith, z, ap (λ (x : Written). x .refusal) (rw q at (e .0)))))
+
+  pub written-short : (w .refusal ≡ 0 → ⊥) → (length room < at + length text) × (last ≡ room)
+  unfolding roomy
+  written-short d =
+      cases (leb (at + length text) (length room))
+      (λ q. absurd (d (ap (λ (x : Written). x .refusal) (rw q at (e .0)))))
+      (λ q. (leb-false (at + length text) (length room) q, rw q at (e .1)))
+
+-- some of the lines from a line on stand in the room, and those that fit are these and those that fit behind them
+pub record Underway (s : List ℕ) (read : Sheet) (first room : List ℕ) (from last next end : ℕ) : Type 0 where
+  pub count : ℕ
+  pub more : ℕ
+  pub at : next ≡ from + count
+  pub left : last - from ≡ count + more
+  pub place : end ≡ length (linesText s read from count)
+  pub within : end ≤ length first
+  pub text : room ≡ put first 0 (linesText s read from count)
+  pub rest : fitting s read (length first) from (last - from) ≡ count + fitting s read (length first - end) next more
+
+module _ (s : List ℕ) (read : Sheet) (first : List ℕ) (from last : ℕ) where
+  pub starts : from ≤ last → Underway s read first first from last from 0
+  starts h = record {
+    count = 0;
+    more = last - from;
+    at = omega arith;
+    left = omega arith;
+    place = ap length (sym (lines-none s read from));
+    within = omega arith;
+    text = rw (lines-none s read from) (sym (put-none first 0));
+    rest = let z : length first - 0 ≡ length first = omega arith in rw z (omega arith);
+  }
+
+  module _ (room : List ℕ) (next end : ℕ) (u : Underway s read first room from last next end) where
+    pub kept : length room ≡ length first
+    kept = ap length (u .text) ∙ length-put first 0 (linesText s read from (u .count)) (omega (arith, u .place, u .within))
+
+    -- a line more
+    pub goes-on : next < last → (w : Written) (after : List ℕ)
+        → (w ≡ writtenOf room end (lineText s read next)) × (after ≡ roomOf room end (lineText s read next)) → w .refusal ≡ 0
+        → Underway s read first after from last (next + 1) (w .end)
+    goes-on h w after e z =
+        let n = written-there room end (lineText s read next) w after e z in
+        let k = kept in
+        let a = u .at in
+        let l = u .left in
+        let t : linesText s read from (u .count + 1) ≡ linesText s read from (u .count) ++ lineText s read next =
+        rw (a) (lines-more s read from (u .count)) in
+        let p : end ≡ 0 + length (linesText s read from (u .count)) = omega (arith, u .place) in
+        let b : length first - end - length (lineText s read next) ≡ length first - w .end = omega (arith, n .1) in
+        let f = fitting-more s read (length first - end) next (u .more) (omega arith) (omega (arith, n .0)) in
+        record {
+          count = u .count + 1;
+          more = u .more - 1;
+          at = omega arith;
+          left = omega arith;
+          place = omega (arith, n .1, u .place, ap length t, length-append (linesText s read from (u .count)) (lineText s read next));
+          within = omega (arith, n .0, n .1);
+          text = n .2 ∙ rw (t, u .text, p) (put-put first 0 (linesText s read from (u .count)) (lineText s read next) (omega (arith, u .place, u .within)));
+          rest = rw (← b) (omega (arith, u .rest, f));
+        }
+
+    -- the answer, where no line more is to be written or none fits
+    ends : fitting s read (length first) from (last - from) ≡ u .count
+        → (_≡_ {A = Piece} (record { refusal = 0; next = next; end = end }) (fittingPiece s read (length first) from (last - from)))
+        × (room ≡ put first 0 (fittingText s read (length first) from (last - from)))
+    ends e = (rw (e, u .at, u .place), rw e (u .text))
+
+    pub ends-full : next < last → (w : Written) (after : List ℕ)
+        → (w ≡ writtenOf room end (lineText s read next)) × (after ≡ roomOf room end (lineText s read next)) → (w .refusal ≡ 0 → ⊥)
+        → (_≡_ {A = Piece} (record { refusal = 0; next = next; end = end }) (fittingPiece s read (length first) from (last - from)))
+        × (after ≡ put first 0 (fittingText s read (length first) from (last - from)))
+    ends-full h w after e d =
+        let n = written-short room end (lineText s read next) w after e d in
+        let k = kept in
+        let f = fitting-full s read (length first - end) next (u .more) (omega (arith, n .0, u .within)) in
+        let r = ends (omega (arith, u .rest, f)) in
+        (r .0, n .1 ∙ r .1)
+
+    pub ends-last : last ≤ next → from ≤ last
+        → (_≡_ {A = Piece} (record { refusal = 0; next = next; end = end }) (fittingPiece s read (length first) from (last - from)))
+        × (room ≡ put first 0 (fittingText s read (length first) from (last - from)))
+    ends-last h g =
+        let z : u .more ≡ 0 = omega (arith, u .at, u .left) in
+        ends (u .rest ∙ rw (z, fitting-none s read (length first - end) next) (omega arith))
+
+-- the call: a line that the trace does not have, a room shorter than the line, and a piece that is written
+module _ (s : List ℕ) (from : ℕ) (room : List ℕ) where
+  pub refused-range : lineCount (sheetOf s) ≤ from → pieceRefusal s from room ≡ bad-range
+  unfolding refusal
+  refused-range h = rw (le-ltb from (lineCount (sheetOf s)) h)
+
+  pub refused-room : from < lineCount (sheetOf s) → length room < length (lineText s (sheetOf s) from) → pieceRefusal s from room ≡ short-room
+  unfolding refusal roomy
+  refused-room h l = rw (lt-ltb from (lineCount (sheetOf s)) h, lt-leb (0 + length (lineText s (sheetOf s) from)) (length room) (omega arith))
+
+  pub not-refused : from < lineCount (sheetOf s) → length (lineText s (sheetOf s) from) ≤ length room → pieceRefusal s from room ≡ 0
+  unfolding refusal roomy
+  not-refused h l = rw (lt-ltb from (lineCount (sheetOf s)) h, le-leb (0 + length (lineText s (sheetOf s) from)) (length room) (omega arith))
+
+  -- the first line fits where any does
+  pub first-fits : (read : Sheet) (left : ℕ) → 0 < fitting s read (length room) from left → length (lineText s read from) ≤ length room
+  first-fits read left h =
+      cases (leb (length (lineText s read from)) (length room))
+      (λ q. leb-true (length (lineText s read from)) (length room) q)
+      (λ q. absurd (omega (arith, fitting-full s read (length room) from left (leb-false (length (lineText s read from)) (length room) q))))
+
+  pub none-fits : (read : Sheet) (left : ℕ) → 0 < left → fitting s read (length room) from left ≡ 0 → length room < length (lineText s read from)
+  none-fits read left p h =
+      cases (leb (length (lineText s read from)) (length room))
+      (λ q. absurd (omega (arith, fitting-more s read (length room) from left p (leb-true (length (lineText s read from)) (length room) q))))
+      (λ q. leb-false (length (lineText s read from)) (length room) q)
+
+  module _ (read : Sheet) (last : ℕ) (same : read ≡ sheetOf s) (count : last ≡ lineCount read) where
+    pub piece-range : (r : Piece) → last ≤ from → r ≡ record { refusal = bad-range; next = 0; end = 0 } → (r ≡ pieceOf s from room) × (room ≡ roomPiece s from room)
+    piece-range r h e = let n = refused-range (rw (← same, ← count) h) in rw n (e, refl)
+
+    module _ (r : Piece) (after : List ℕ) (h : from < last)
+        (e : (r ≡ fittingPiece s read (length room) from (last - from)) × (after ≡ put room 0 (fittingText s read (length room) from (last - from)))) where
+      pub piece-short : r .next ≡ from → (w : Piece) → w ≡ record { refusal = short-room; next = 0; end = 0 }
+          → (w ≡ pieceOf s from room) × (after ≡ roomPiece s from room)
+      piece-short q w f =
+          let z : fitting s read (length room) from (last - from) ≡ 0 = omega (arith, q, ap (λ (x : Piece). x .next) (e .0)) in
+          let l = none-fits read (last - from) (omega arith) z in
+          let n = refused-room (rw (← same, ← count) h) (rw (← same) l) in
+          let a : after ≡ room = e .1 ∙ rw (z, lines-none s read from) (put-none room 0) in
+          rw n (f, a)
+
+      pub piece-written : (r .next ≡ from → ⊥) → (r ≡ pieceOf s from room) × (after ≡ roomPiece s from room)
+      piece-written d =
+          let f : 0 < fitting s read (length room) from (last - from) = omega (arith, d, ap (λ (x : Piece). x .next) (e .0)) in
+          let n = not-refused (rw (← same, ← count) h) (rw (← same) (first-fits read (last - from) f)) in
+          rw (n, ← same, ← count) e
+
+  -- what a piece that is not refused brings: a line at least, no line that the trace does not have, and no byte behind the room
+  pub record Forward : Type 0 where
+    pub above : from < pieceOf s from room .next
+    pub in-trace : pieceOf s from room .next ≤ lineCount (sheetOf s)
+    pub in-room : pieceOf s from room .end ≤ length room
+
+  pub asked-there : pieceOf s from room .refusal ≡ 0 → (from < lineCount (sheetOf s)) × (length (lineText s (sheetOf s) from) ≤ length room)
+  asked-there z =
+      cases (ltb from (lineCount (sheetOf s)))
+      (λ q. let h = ltb-true from (lineCount (sheetOf s)) q in
+      cases (leb (length (lineText s (sheetOf s) from)) (length room))
+      (λ p. (h, leb-true (length (lineText s (sheetOf s) from)) (length room) p))
+      (λ p. let n = refused-room h (leb-false (length (lineText s (sheetOf s) from)) (length room) p) in
+      let z = rw n at z in absurd (omega arith)))
+      (λ q. let n = refused-range (ltb-false from (lineCount (sheetOf s)) q) in let z = rw n at z in absurd (omega arith))
+
+  pub goes-forward : pieceOf s from room .refusal ≡ 0 → Forward
+  goes-forward z =
+      let a = asked-there z in
+      let n = not-refused (a .0) (a .1) in
+      let left = lineCount (sheetOf s) - from in
+      let w = fitting-within s (sheetOf s) (length room) from (lineCount (sheetOf s) - from) in
+      let m = fitting-more s (sheetOf s) (length room) from (lineCount (sheetOf s) - from) (omega (arith, a .0)) (a .1) in
+      record {
+        above = rw n (omega arith);
+        in-trace = rw n (omega (arith, a .0));
+        in-room = rw n (fitting-length s (sheetOf s) (length room) from (lineCount (sheetOf s) - from));
+      }
