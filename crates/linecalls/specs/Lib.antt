@@ -1,2 +1,2 @@
--- What a packet's line tells, by plain numbers.
+-- What a packet's line tells, and a piece of the trace, by plain numbers.
 pub mod Outcomes

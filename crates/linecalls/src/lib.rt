@@ -1,16 +1,13 @@
 // The calls about the lines of a trace for a caller outside of Rattle, on plain numbers and slices.
 ghost use mathlib.Core.Path.{_≡_};
-ghost use lib.ListN.{take};
-ghost use Rattle.hall.specs.Rooms.{told, written};
 ghost use Rattle.sheet.specs.Answers.{sheetOf};
 ghost use Rattle.report.specs.Texts.{hallLine, refusedLine, endLine, packetLine};
 ghost use Rattle.report.specs.Rooms.{writtenOf, roomOf};
-ghost use Rattle.lines.specs.Traces.{openingText, journeyText, journeyRefusal, unlessWritten, unlessRoom};
+ghost use Rattle.lines.specs.Traces.{openingText, journeyText, journeyRefusal, unlessWritten, unlessRoom, pieceOf, roomPiece};
 ghost use Rattle.rooms.specs.Numbers.{hallOf};
-ghost use Rattle.linecalls.specs.Outcomes.{reportOf};
+ghost use Rattle.linecalls.specs.Outcomes.{reportOf, nextTold, endTold};
 use hall::Hall;
 use report::PacketReport;
-use rooms::tell_bytes;
 
 #[no_mangle]
 pub extern "C" fn calls_opening_line(sheet: &[u8], at: usize, room: &mut [u8]) -> u32
@@ -149,11 +146,25 @@ pub extern "C" fn calls_packet_line_end(
     report::packet_line(room, at, told, uids).end
 }
 
+// A piece of the trace: the refusal is returned; where there is none, the first line that is not written and the place behind the text are told.
 #[no_mangle]
-pub extern "C" fn calls_written_part(text: &[u8], end: usize, room: &mut [u8]) -> u32
-    ensures number { λ r. ⌜ r ≡ told (0, take end (now (text .entry))) (now (room .entry)) ⌝ }
-    ensures room { λ _. ⌜ now (room .exit) ≡ written (0, take end (now (text .entry))) (now (room .entry)) ⌝ }
+pub extern "C" fn calls_trace_piece(
+    sheet: &[u8],
+    from: u32,
+    room: &mut [u8],
+    next: &mut u32,
+    end: &mut usize,
+) -> u32
+    ensures number { λ r. ⌜ r ≡ pieceOf (now (sheet .entry)) from (now (room .entry)) .refusal ⌝ }
+    ensures room { λ _. ⌜ now (room .exit) ≡ roomPiece (now (sheet .entry)) from (now (room .entry)) ⌝ }
+    ensures next { λ _. ⌜ now (next .exit) ≡ nextTold (pieceOf (now (sheet .entry)) from (now (room .entry))) (now (next .entry)) ⌝ }
+    ensures end { λ _. ⌜ now (end .exit) ≡ endTold (pieceOf (now (sheet .entry)) from (now (room .entry))) (now (end .entry)) ⌝ }
 {
-    let part = lines::written_part(text, end);
-    tell_bytes(0, part, room)
+    let piece = lines::trace_piece(room, sheet, from);
+    if piece.refusal != 0 {
+        return piece.refusal;
+    }
+    *next = piece.next;
+    *end = piece.end;
+    0
 }

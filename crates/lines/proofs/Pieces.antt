@@ -169,12 +169,7 @@ module _ (s : List ℕ) (from : ℕ) (room : List ℕ) where
           let n = not-refused (rw (← same, ← count) h) (rw (← same) (first-fits read (last - from) f)) in
           rw (n, ← same, ← count) e
 
-  -- what a piece that is not refused brings: a line at least, no line that the trace does not have, and no byte behind the room
-  pub record Forward : Type 0 where
-    pub above : from < pieceOf s from room .next
-    pub in-trace : pieceOf s from room .next ≤ lineCount (sheetOf s)
-    pub in-room : pieceOf s from room .end ≤ length room
-
+  -- a piece that is not refused: its first line is there, and fits
   pub asked-there : pieceOf s from room .refusal ≡ 0 → (from < lineCount (sheetOf s)) × (length (lineText s (sheetOf s) from) ≤ length room)
   asked-there z =
       cases (ltb from (lineCount (sheetOf s)))
@@ -185,15 +180,20 @@ module _ (s : List ℕ) (from : ℕ) (room : List ℕ) where
       let z = rw n at z in absurd (omega arith)))
       (λ q. let n = refused-range (ltb-false from (lineCount (sheetOf s)) q) in let z = rw n at z in absurd (omega arith))
 
-  pub goes-forward : pieceOf s from room .refusal ≡ 0 → Forward
-  goes-forward z =
-      let a = asked-there z in
-      let n = not-refused (a .0) (a .1) in
+  -- what it brings: a line at least, no line that the trace does not have, and no byte behind the room
+  pub record Forward (r : Piece) : Type 0 where
+    pub above : from < r .next
+    pub in-trace : r .next ≤ lineCount (sheetOf s)
+    pub in-room : r .end ≤ length room
+
+  pub goes-forward : (r : Piece) → r ≡ pieceOf s from room → r .refusal ≡ 0 → Forward r
+  goes-forward r e z =
+      let a = asked-there (sym (ap (λ (x : Piece). x .refusal) e) ∙ z) in
+      let p = rw (not-refused (a .0) (a .1)) at e in
       let left = lineCount (sheetOf s) - from in
-      let w = fitting-within s (sheetOf s) (length room) from (lineCount (sheetOf s) - from) in
-      let m = fitting-more s (sheetOf s) (length room) from (lineCount (sheetOf s) - from) (omega (arith, a .0)) (a .1) in
+      let m = fitting-more s (sheetOf s) (length room) from left (omega (arith, a .0)) (a .1) in
       record {
-        above = rw n (omega arith);
-        in-trace = rw n (omega (arith, a .0));
-        in-room = rw n (fitting-length s (sheetOf s) (length room) from (lineCount (sheetOf s) - from));
+        above = omega (arith, ap (λ (x : Piece). x .next) p, m);
+        in-trace = omega (arith, ap (λ (x : Piece). x .next) p, a .0, fitting-within s (sheetOf s) (length room) from left);
+        in-room = omega (arith, ap (λ (x : Piece). x .end) p, fitting-length s (sheetOf s) (length room) from left);
       }
