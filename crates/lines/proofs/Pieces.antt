@@ -5,7 +5,8 @@ use mathlib.Core.List.{List, [], _∷_, _++_}
 use Prim.Native.Nat.{ℕ, zero, suc, _+_, _-_, _*_, _≤_, _<_}
 use native.Mathlib.Omega.{arith}
 use lib.Dec.{eqb, leb, ltb}
-use lib.ListN.{length, length-append}
+use lib.ListN.{length, take, drop, length-append}
+use lib.Seq.{take-append-seam}
 use borrow.Author.Tests.{eq-eqb, ne-eqb, lt-ltb, le-ltb, le-leb, lt-leb, leb-true, leb-false, ltb-true, ltb-false, eqb-true, eqb-false}
 use Rattle.combine.specs.Tests.{pick}
 use Rattle.combine.proofs.Tests.{cases}
@@ -19,7 +20,7 @@ use Rattle.report.specs.Rooms.{put, roomy, writtenOf, roomOf}
 use Rattle.report.proofs.Rooms.{put-none, put-put, length-put}
 use Rattle.lines.specs.declared.Piece.{Piece}
 use Rattle.lines.specs.Traces.{lineCount, lineText, linesText, fitting, fittingText, fittingPiece, pieceRefusal, pieceOf, roomPiece}
-use Rattle.lines.proofs.Lines.{count-refused, count-accepted, lines-none, lines-more, fitting-more, fitting-full, fitting-none, fitting-within, fitting-length}
+use Rattle.lines.proofs.Lines.{count-refused, count-accepted, lines-none, lines-more, lines-append, fitting-more, fitting-full, fitting-none, fitting-within, fitting-length}
 
 -- an accepted sheet has few packets
 pub few-packets : (s : List ℕ) → sheetOf s .refusal ≡ 0 → sheetOf s .packets ≤ 65536
@@ -179,6 +180,34 @@ module _ (s : List ℕ) (from : ℕ) (room : List ℕ) where
       (λ p. let n = refused-room h (leb-false (length (lineText s (sheetOf s) from)) (length room) p) in
       let z = rw n at z in absurd (omega arith)))
       (λ q. let n = refused-range (ltb-false from (lineCount (sheetOf s)) q) in let z = rw n at z in absurd (omega arith))
+
+  -- a piece is refused by 3 only behind the last line
+  pub no-line : pieceOf s from room .refusal ≡ bad-range → lineCount (sheetOf s) ≤ from
+  no-line z =
+      cases (ltb from (lineCount (sheetOf s)))
+      (λ q. let h = ltb-true from (lineCount (sheetOf s)) q in
+      cases (leb (length (lineText s (sheetOf s) from)) (length room))
+      (λ p. let n = not-refused h (leb-true (length (lineText s (sheetOf s) from)) (length room) p) in let z = rw n at z in absurd (omega arith))
+      (λ p. let n = refused-room h (leb-false (length (lineText s (sheetOf s) from)) (length room) p) in let z = rw n at z in absurd (omega arith)))
+      (λ q. ltb-false from (lineCount (sheetOf s)) q)
+
+  take-put : (text : List ℕ) → take (length text) (put room 0 text) ≡ text
+  unfolding put
+  take-put text = take-append-seam text (drop (0 + length text) room)
+
+  -- a piece and the lines behind it are all lines from its first on
+  pub joined : pieceOf s from room .refusal ≡ 0 → (rest : List ℕ)
+      → rest ≡ linesText s (sheetOf s) (pieceOf s from room .next) (lineCount (sheetOf s) - pieceOf s from room .next)
+      → take (pieceOf s from room .end) (roomPiece s from room) ++ rest ≡ linesText s (sheetOf s) from (lineCount (sheetOf s) - from)
+  joined z rest e =
+      let a = asked-there z in
+      let n = not-refused (a .0) (a .1) in
+      let left = lineCount (sheetOf s) - from in
+      let count = fitting s (sheetOf s) (length room) from left in
+      let more = lineCount (sheetOf s) - (from + count) in
+      let q = rw n at e in
+      let m : count + more ≡ left = omega (arith, a .0, fitting-within s (sheetOf s) (length room) from left) in
+      rw (n, take-put (linesText s (sheetOf s) from count), q) (lines-append s (sheetOf s) from count more ∙ rw m)
 
   -- what it brings: a line at least, no line that the trace does not have, and no byte behind the room
   pub record Forward (r : Piece) : Type 0 where
