@@ -1,2 +1,3 @@
--- What the trace of a sheet says, line by line.
+-- What the trace of a sheet says, line by line and piece by piece.
 pub mod Traces
+pub mod Worked

@@ -107,8 +107,8 @@ fn told_at(room: &mut [u8], at: usize, sheet: &[u8], read: Sheet, i: u32) -> Wri
     ensures answer { λ r. ⌜ r ≡ writtenOf (now (room .entry)) at (journeyText (now (sheet .entry)) read i) ⌝ }
     ensures room { λ _. ⌜ now (room .exit) ≡ roomOf (now (room .entry)) at (journeyText (now (sheet .entry)) read i) ⌝ }
 {
-    let j = journey_at(sheet, read, i);
-    told_line(room, at, sheetparts::packet_fields(sheet, i), j)
+    let p = sheetparts::packet_fields(sheet, i);
+    told_line(room, at, p, journey_at(sheet, read, i))
 }
 
 // Line i of a trace.
