@@ -26,6 +26,7 @@ use tally::{Effort, Tally};
 /// Compares every call and prints what was met; answers whether all is well.
 pub fn run(seed: u64, effort: Effort) -> bool {
     println!("seed {seed}");
+    tables::draw_pool(seed);
     let met = "refusals met, 0 for none";
     println!("{}", line("call", "inputs", met, "differences"));
     let mut faults = Vec::new();

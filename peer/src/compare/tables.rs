@@ -6,7 +6,7 @@ use std::iter;
 use std::ops::Deref;
 use std::sync::{Mutex, OnceLock, PoisonError};
 
-use peer::hall::{Hall, LEAST_N, MOST_K, MOST_N};
+use peer::hall::{Hall, MOST_K, MOST_N};
 use peer::ports::UP;
 use peer::random::Random;
 
@@ -22,16 +22,23 @@ pub const KNOWN: u8 = 5;
 const WRONG_LENGTH: u32 = 8;
 /// The codes of a table for a hall that is none.
 const SUPPOSED_CODES: u32 = 40;
-/// A hall whose table has at most so many codes is light; tables of others are drawn once and shared.
+/// A hall whose table has at most so many codes is light; tables of others are parts of the pool.
 const LIGHT: usize = 20_000;
 /// A table of at most so many codes is shown whole.
 const SHOWN: usize = 400;
-/// The shares of codes that are not up in the DCell(2)s of a shared table, in turn.
-const SHARES: [u32; 8] = [0, 5, 10, 20, 30, 40, 55, MOST_NOT_UP];
-/// The seed of the shared tables.
-const SHARED_SEED: u64 = 0x7AB1E;
+/// The places of the pool that a table of the largest hall may begin at.
+const PLACES: usize = 1 << 20;
+/// The seed of the pool where no comparison gave one.
+const TESTED_SEED: u64 = 0x7AB1E;
+/// A run of the pool in which one share of codes is not up has so many codes at least.
+const LEAST_RUN: usize = 1 << 6;
+/// It has at most the least ones doubled fewer times than this.
+const DOUBLINGS: u32 = 9;
 
-/// A table, drawn for one input or lent by all.
+/// Codes that depend on the seed of a comparison alone; each table of a hall that is not light is a part of them.
+static POOL: OnceLock<Vec<u8>> = OnceLock::new();
+
+/// A table, drawn for one input or a part of what is lent to all.
 pub enum Table {
     Own(Vec<u8>),
     Shared(&'static [u8]),
@@ -149,13 +156,20 @@ pub fn code_not_up(random: &mut Random) -> u8 {
     }
 }
 
-/// A table for any hall, mostly of the right length; shared where the hall is not light.
+/// Draws the pool from the seed of a comparison, before its first table.
+pub fn draw_pool(seed: u64) {
+    POOL.get_or_init(|| drawn_pool(seed));
+}
+
+/// A table for any hall, mostly of the right length; a part of the pool, from any of its places on, where the hall is not light.
 pub fn any_hall_table(random: &mut Random, h: Hall) -> Table {
     let count = any_length(random, hall_codes(h));
-    match shared(h) {
-        Some(codes) => Table::Shared(&codes[..count.min(codes.len())]),
-        None => Table::Own(any_codes(random, count)),
+    if light(h) {
+        return Table::Own(any_codes(random, count));
     }
+    let pool = POOL.get_or_init(|| drawn_pool(TESTED_SEED));
+    let start = random.below((pool.len() - count) as u32 + 1) as usize;
+    Table::Shared(&pool[start..start + count])
 }
 
 /// A table of the right length for a hall, with so many in a hundred codes not up, and one of the hall's servers. Where the hall is not
@@ -166,15 +180,14 @@ pub fn sound_hall_table(random: &mut Random, h: Hall, not_up: u32) -> (Table, u3
         let codes = codes(random, hall_codes(h), not_up);
         return (Table::Own(codes), uid);
     }
-    (Table::Shared(shared_sound(h, not_up)), uid)
+    (Table::Shared(shared_sound(random, h, not_up)), uid)
 }
 
-/// The table of a hall that is not light with so many in a hundred codes not up.
-fn shared_sound(h: Hall, not_up: u32) -> &'static [u8] {
+/// The table of a hall that is not light with so many in a hundred codes not up, drawn by whoever asks for it first.
+fn shared_sound(random: &mut Random, h: Hall, not_up: u32) -> &'static [u8] {
     static TABLES: Mutex<BTreeMap<(u32, u32), &'static [u8]>> = Mutex::new(BTreeMap::new());
     let mut tables = TABLES.lock().unwrap_or_else(PoisonError::into_inner);
-    let mut random = Random::new(SHARED_SEED);
-    let drawn = || &*codes(&mut random, hall_codes(h), not_up).leak();
+    let drawn = || &*codes(random, hall_codes(h), not_up).leak();
     tables.entry((h.n, not_up)).or_insert_with(drawn)
 }
 
@@ -187,27 +200,26 @@ fn code(random: &mut Random, not_up: u32) -> u8 {
     }
 }
 
-/// The shared table of a hall that is not light, with one code too many.
-fn shared(h: Hall) -> Option<&'static [u8]> {
-    static TABLES: [OnceLock<Vec<u8>>; (MOST_N - LEAST_N + 1) as usize] =
-        [const { OnceLock::new() }; (MOST_N - LEAST_N + 1) as usize];
-    if light(h) {
-        return None;
-    }
-    let table = &TABLES[(h.n - LEAST_N) as usize];
-    Some(table.get_or_init(|| drawn(h)))
+/// The pool of a seed: a table of the largest hall, and more for the other places it may begin at.
+fn drawn_pool(seed: u64) -> Vec<u8> {
+    let largest = Hall {
+        n: MOST_N,
+        k: MOST_K,
+        b: 0,
+    };
+    pool_of(seed, hall_codes(largest) + PLACES)
 }
 
-/// The codes of a shared table, one too many.
-fn drawn(h: Hall) -> Vec<u8> {
-    let mut random = Random::new(SHARED_SEED + u64::from(h.n));
-    let (count, cell) = (hall_codes(h), codes_of(h, 2));
-    let mut table = Vec::with_capacity(count + 1);
-    for share in SHARES.iter().cycle().take(count / cell) {
-        table.extend(codes(&mut random, cell, *share));
+/// So many codes of a seed, in runs of any length with any share that is not up.
+fn pool_of(seed: u64, count: usize) -> Vec<u8> {
+    let mut random = Random::new(seed);
+    let mut pool = Vec::with_capacity(count);
+    while pool.len() < count {
+        let run = LEAST_RUN << random.below(DOUBLINGS);
+        let codes = any_codes(&mut random, run.min(count - pool.len()));
+        pool.extend_from_slice(&codes);
     }
-    table.push(UP);
-    table
+    pool
 }
 
 #[cfg(test)]
@@ -258,7 +270,29 @@ mod tests {
     }
 
     #[test]
-    fn shared_tables_serve_the_right_length_and_one_code_more() {
+    fn a_pool_depends_on_its_seed_and_has_runs_of_every_share() {
+        let pool = |seed| pool_of(seed, 1_000_000);
+        assert_eq!(pool(7), pool(7));
+        assert_ne!(pool(7), pool(8));
+        let not_up = |run: &[u8]| run.iter().filter(|&&code| code != UP).count();
+        let runs: Vec<usize> = pool(7).chunks(LEAST_RUN).map(not_up).collect();
+        assert!(runs.contains(&0) && runs.iter().any(|&count| count > LEAST_RUN / 2));
+    }
+
+    #[test]
+    fn two_tables_of_one_heavy_hall_are_different_parts_of_the_pool() {
+        let h = Hall { n: 3, k: 3, b: 0 };
+        let mut random = Random::new(9);
+        let mut table = || {
+            any_hall_table(&mut random, h)
+                .first_chunk::<1000>()
+                .copied()
+        };
+        assert_ne!(table(), table());
+    }
+
+    #[test]
+    fn heavy_tables_serve_the_right_length_and_one_code_more() {
         let h = Hall { n: 3, k: 3, b: 0 };
         let mut random = Random::new(4);
         let mut met = [false; 3];
