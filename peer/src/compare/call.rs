@@ -7,6 +7,7 @@ use peer::random::Random;
 use peer::refusal::NONE;
 
 use super::cases::Case;
+use super::events::{Event, Met};
 use super::room::{told, Element, Room};
 
 /// A call that both implementations have.
@@ -20,6 +21,8 @@ pub trait Call {
     const NAME: &'static str;
     /// Every number that the call can return, 0 included; a comparison has to meet each of them.
     const NUMBERS: &'static [u32];
+    /// What a comparison has to meet besides, on inputs that both sides agree on.
+    const EVENTS: &'static [Event] = &[];
     /// The random inputs of a short comparison, those of `edges` apart.
     const INPUTS: u32 = 200_000;
     /// The inputs of each case; fewer for a slow call.
@@ -33,6 +36,8 @@ pub trait Call {
     fn long_edges() -> impl Iterator<Item = Self::Input> {
         iter::empty()
     }
+    /// Counts what an input did that both sides agree on, by the number returned and the rooms as they were left.
+    fn count(_input: &Self::Input, _number: u32, _rooms: &Self::Rooms, _met: &mut Met) {}
     /// Rooms for one input, some of them too short, filled at random.
     fn rooms(input: &Self::Input, random: &mut Random) -> Self::Rooms;
     /// What is measured, a line of the benchmark each; nothing where another call's lines tell as much.

@@ -5,6 +5,7 @@ mod call;
 mod calls;
 mod cases;
 mod chains;
+mod events;
 pub mod failures;
 mod frames;
 mod inputs;
@@ -23,6 +24,9 @@ mod texts;
 use calls::{Listed, CALLS};
 use tally::{Effort, Tally};
 
+/// The width of the column that tells what was met.
+const MET_WIDTH: usize = 92;
+
 /// Compares every call and prints what was met; answers whether all is well.
 pub fn run(seed: u64, effort: Effort) -> bool {
     println!("seed {seed}");
@@ -34,8 +38,12 @@ pub fn run(seed: u64, effort: Effort) -> bool {
     for call in CALLS {
         let tally = (call.compare)(seed, effort);
         println!("{}", row(call, &tally));
-        passed += usize::from(tally.passed());
-        faults.extend(faults_of(call, tally));
+        for line in event_lines(&tally) {
+            println!("{line}");
+        }
+        let found = faults_of(call, tally);
+        passed += usize::from(found.is_empty());
+        faults.extend(found);
     }
     for fault in &faults {
         println!("{fault}");
@@ -52,19 +60,33 @@ fn row(call: &Listed, tally: &Tally) -> String {
     line(call.name, &inputs, &met.join(", "), &differences)
 }
 
-/// A line of the table, its columns one below the other.
-fn line(call: &str, inputs: &str, met: &str, differences: &str) -> String {
-    format!("{call:<14} | {inputs:>9} | {met:<92} | {differences}")
+/// The lines below it that tell what its inputs did.
+fn event_lines(tally: &Tally) -> Vec<String> {
+    let mut lines: Vec<String> = Vec::new();
+    for text in tally.events.texts() {
+        match lines.last_mut() {
+            Some(last) if last.len() + text.len() + 2 <= MET_WIDTH => *last += &format!(", {text}"),
+            _ => lines.push(text),
+        }
+    }
+    lines.iter().map(|met| line("", "", met, "")).collect()
 }
 
-/// What is wrong with one call, a text each: the first inputs that differ, numbers never met, and numbers that it cannot give.
+/// A line of the table, its columns one below the other.
+fn line(call: &str, inputs: &str, met: &str, differences: &str) -> String {
+    format!("{call:<14} | {inputs:>9} | {met:<MET_WIDTH$} | {differences}")
+}
+
+/// What is wrong with one call, a text each: the first inputs that differ, numbers and events never met, and numbers that it cannot give.
 fn faults_of(call: &Listed, tally: Tally) -> Vec<String> {
     let name = call.name;
     let unmet = tally.unmet(call.numbers).into_iter();
     let unmet = unmet.map(|number| format!("{name} never returned {number}"));
     let unknown = tally.unknown(call.numbers).into_iter();
     let unknown = unknown.map(|number| format!("{name} returned {number}, which it cannot give"));
-    let numbers: Vec<String> = unmet.chain(unknown).collect();
+    let events = tally.events.unmet(call.events).into_iter();
+    let events = events.map(|event| format!("{name} never met: {event}"));
+    let numbers: Vec<String> = unmet.chain(unknown).chain(events).collect();
     tally.shown.into_iter().chain(numbers).collect()
 }
 
@@ -98,6 +120,7 @@ mod tests {
             met: [(0, 5), (6, 2), (9, 3)].into(),
             differences: 1,
             shown: vec!["sizes differs".to_owned()],
+            ..Tally::default()
         });
         let numbers = [
             "sizes never returned 1",
@@ -105,5 +128,21 @@ mod tests {
         ];
         assert_eq!(faults[0], "sizes differs");
         assert_eq!(faults[1..], numbers);
+    }
+
+    #[test]
+    fn an_event_never_met_is_a_fault_and_one_met_is_told() {
+        let listed = CALLS.iter().find(|call| call.name == "step");
+        let step = listed.unwrap();
+        let mut tally = Tally {
+            met: step.numbers.iter().map(|&number| (number, 1)).collect(),
+            ..Tally::default()
+        };
+        for &event in &step.events[1..] {
+            tally.events.add(event);
+        }
+        let told = event_lines(&tally).join("\n");
+        assert!(told.contains("drop 4: 1, delivered: 1"));
+        assert_eq!(faults_of(step, tally), ["step never met: forwarded"]);
     }
 }

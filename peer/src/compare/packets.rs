@@ -1,8 +1,9 @@
 //! Packets to forward: at a server with the table of its cell, or on a journey over the hall table.
 
 use peer::forward::{Packet, Step, MOST_RETRY};
-use peer::hall::Hall;
+use peer::hall::{self, Hall};
 use peer::random::Random;
+use peer::refusal::NONE;
 
 use super::inputs::{any_hall, any_uid, servers, sizes};
 use super::tables::{
@@ -13,6 +14,8 @@ use super::tables::{
 const STEP_BYTES: usize = 32;
 /// A retry that is refused, among those drawn.
 const RETRIES: u32 = MOST_RETRY as u32 + 2;
+/// One proxy in so many is the server that the packet is at, besides those drawn so by chance.
+const ARRIVED: u32 = 6;
 
 /// A packet at a server, with the table of the server's cell.
 #[derive(Debug)]
@@ -120,21 +123,44 @@ fn any_packet(random: &mut Random, hall: Hall, uid: u32) -> (Packet, u32) {
     let packet = Packet {
         dst: any_server(random, hall, uid),
         has_proxy,
-        proxy: any_server(random, hall, uid),
+        proxy: any_proxy(random, hall, uid),
         retry: random.below(RETRIES) as u8,
         ttl: any_ttl(random),
     };
     (packet, flag)
 }
 
-/// A server for a packet at another: that one, one of its cell, or any.
+/// A proxy for a packet at a server, often that one.
+fn any_proxy(random: &mut Random, hall: Hall, uid: u32) -> u32 {
+    if random.once_in(ARRIVED) {
+        uid
+    } else {
+        any_server(random, hall, uid)
+    }
+}
+
+/// A server for a packet at another: that one, one of its cell, one behind a link of its cell, or any.
 fn any_server(random: &mut Random, hall: Hall, uid: u32) -> u32 {
     let cell = sizes(hall).map_or(1, |t| t[hall.b as usize]);
+    let beside = (uid / cell * cell).saturating_add(random.below(cell));
     match random.below(8) {
         0 => uid,
-        1 | 2 => (uid / cell * cell).saturating_add(random.below(cell)),
+        1 | 2 => beside,
+        3 => behind(random, hall, beside),
         _ => any_uid(random, hall),
     }
+}
+
+/// A server of the sub-cell that a link above b of a server leads to, or any uid where there is no such link.
+fn behind(random: &mut Random, hall: Hall, uid: u32) -> u32 {
+    let above = hall.k.saturating_sub(hall.b);
+    let level = hall.b.saturating_add(1 + random.below(above));
+    let link = hall::neighbour(hall, uid, level);
+    let Some(t) = sizes(hall).filter(|_| link.refusal == NONE) else {
+        return any_uid(random, hall);
+    };
+    let size = t[level as usize - 1];
+    link.uid / size * size + random.below(size)
 }
 
 /// A TTL: few, or any.

@@ -5,6 +5,7 @@ use std::collections::BTreeMap;
 use peer::random::Random;
 
 use super::call::Call;
+use super::events::Met;
 
 /// A long comparison draws so many times the random inputs of a short one.
 const LONG: u32 = 25;
@@ -29,6 +30,8 @@ pub struct Tally {
     pub inputs: u64,
     /// How often Rattle's side returned each number.
     pub met: BTreeMap<u32, u64>,
+    /// What the inputs did that both sides agree on.
+    pub events: Met,
     /// The inputs on which the two sides differ.
     pub differences: u64,
     /// The first of these, whole.
@@ -68,6 +71,7 @@ impl Tally {
         self.inputs += 1;
         *self.met.entry(number).or_default() += 1;
         if number == expected && ours == theirs {
+            C::count(input, number, &ours, &mut self.events);
             return;
         }
         self.differences += 1;
@@ -77,11 +81,6 @@ impl Tally {
                 C::NAME
             ));
         }
-    }
-
-    /// Whether both sides were the same on every input.
-    pub fn passed(&self) -> bool {
-        self.differences == 0
     }
 
     /// The numbers that were never met.
@@ -174,7 +173,7 @@ mod tests {
     #[test]
     fn two_equal_sides_pass_and_every_input_is_counted() {
         let tally = compared::<RIGHT>();
-        assert!(tally.passed());
+        assert_eq!(tally.differences, 0);
         assert_eq!(tally.inputs, 2 + 1000);
         assert_eq!(tally.met.values().sum::<u64>(), tally.inputs);
         assert!(tally.shown.is_empty());
@@ -182,22 +181,22 @@ mod tests {
 
     #[test]
     fn a_wrong_number_is_a_difference() {
-        assert!(!compared::<WRONG_NUMBER>().passed());
+        assert_ne!(compared::<WRONG_NUMBER>().differences, 0);
     }
 
     #[test]
     fn a_value_wrong_for_one_input_alone_is_a_difference() {
-        assert!(!compared::<WRONG_VALUE>().passed());
+        assert_ne!(compared::<WRONG_VALUE>().differences, 0);
     }
 
     #[test]
     fn room_written_on_a_refusal_is_a_difference() {
-        assert!(!compared::<WRITES_ON_REFUSAL>().passed());
+        assert_ne!(compared::<WRITES_ON_REFUSAL>().differences, 0);
     }
 
     #[test]
     fn room_written_behind_the_answer_is_a_difference() {
-        assert!(!compared::<WRITES_BEHIND>().passed());
+        assert_ne!(compared::<WRITES_BEHIND>().differences, 0);
     }
 
     #[test]

@@ -6,6 +6,7 @@ use peer::refusal::{FIELD, HALL, LENGTH, NONE, ROOM, UID};
 
 use crate::compare::call::Call;
 use crate::compare::cases::{by_b_and_share, Case};
+use crate::compare::events::{self, Event, Met};
 use crate::compare::packets::{any_far, sound_far, Far};
 use crate::compare::room::{told, Room};
 use crate::rattle;
@@ -26,6 +27,7 @@ impl Call for Journey {
 
     const NAME: &'static str = "journey";
     const NUMBERS: &'static [u32] = &[NONE, HALL, UID, LENGTH, ROOM, FIELD];
+    const EVENTS: &'static [Event] = events::JOURNEY;
     const INPUTS: u32 = JOURNEYS;
     const MEASURED: usize = MEASURED;
 
@@ -35,6 +37,12 @@ impl Call for Journey {
 
     fn edges() -> impl Iterator<Item = Far> {
         tried()
+    }
+
+    fn count(at: &Far, number: u32, _: &Room<u32>, met: &mut Met) {
+        if number == NONE {
+            met.add_journey(at);
+        }
     }
 
     fn rooms(_: &Far, random: &mut Random) -> Room<u32> {

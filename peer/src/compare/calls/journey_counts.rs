@@ -7,6 +7,7 @@ use peer::refusal::{FIELD, HALL, LENGTH, NONE, ROOM, UID};
 use super::journey::{tried, JOURNEYS, MEASURED};
 use crate::compare::call::Call;
 use crate::compare::cases::{by_b_and_share, Case};
+use crate::compare::events::{self, Event, Met};
 use crate::compare::packets::{any_far, sound_far, Far};
 use crate::compare::room::{told, Room};
 use crate::rattle;
@@ -23,6 +24,7 @@ impl Call for JourneyCounts {
 
     const NAME: &'static str = "counts";
     const NUMBERS: &'static [u32] = &[NONE, HALL, UID, LENGTH, ROOM, FIELD];
+    const EVENTS: &'static [Event] = events::JOURNEY;
     const INPUTS: u32 = JOURNEYS;
     const MEASURED: usize = MEASURED;
 
@@ -32,6 +34,12 @@ impl Call for JourneyCounts {
 
     fn edges() -> impl Iterator<Item = Far> {
         tried()
+    }
+
+    fn count(at: &Far, number: u32, _: &Room<u32>, met: &mut Met) {
+        if number == NONE {
+            met.add_journey(at);
+        }
     }
 
     fn rooms(_: &Far, random: &mut Random) -> Room<u32> {

@@ -58,6 +58,7 @@ mod written_part;
 
 use super::bench;
 use super::call::Call;
+use super::events::Event;
 use super::ratios::Measure;
 use super::tally::{self, Effort, Tally};
 
@@ -65,6 +66,7 @@ use super::tally::{self, Effort, Tally};
 pub struct Listed {
     pub name: &'static str,
     pub numbers: &'static [u32],
+    pub events: &'static [Event],
     pub compare: fn(seed: u64, effort: Effort) -> Tally,
     pub measure: fn(seed: u64) -> Vec<Measure>,
 }
@@ -140,6 +142,7 @@ const fn listed<C: Call>() -> Listed {
     Listed {
         name: C::NAME,
         numbers: C::NUMBERS,
+        events: C::EVENTS,
         compare: tally::compare::<C>,
         measure: bench::measure::<C>,
     }

@@ -7,6 +7,7 @@ use peer::route::WORD;
 
 use crate::compare::call::Call;
 use crate::compare::cases::{by_b_and_share, Case};
+use crate::compare::events::{self, Event, Met};
 use crate::compare::packets::{any_near, sound_near, words_of, Near};
 use crate::compare::room::{told, Room};
 use crate::rattle;
@@ -23,6 +24,7 @@ impl Call for Step {
 
     const NAME: &'static str = "step";
     const NUMBERS: &'static [u32] = &[NONE, HALL, UID, LENGTH, ROOM, FIELD];
+    const EVENTS: &'static [Event] = events::STEP;
     const INPUTS: u32 = 1_000_000;
     const MEASURED: usize = 128;
 
@@ -33,6 +35,14 @@ impl Call for Step {
     fn edges() -> impl Iterator<Item = Near> {
         let mut random = Random::new(2);
         (0..1000).map(move |_| any_near(&mut random))
+    }
+
+    fn count(at: &Near, number: u32, _: &Room<u8>, met: &mut Met) {
+        if number == NONE {
+            let answer = forward::step(at.hall, at.uid, at.packet, &at.codes);
+            met.add(Event::Ending(answer.ending));
+            met.add_step(at.hall, at.uid, &at.packet, &answer);
+        }
     }
 
     fn rooms(_: &Near, random: &mut Random) -> Room<u8> {

@@ -1,0 +1,257 @@
+//! What compared inputs did, so that a comparison can show that it met what matters.
+
+use std::collections::BTreeMap;
+use std::fmt::{self, Display, Formatter};
+
+use peer::forward::{
+    step, Packet, Step, DELIVERED, DROP_NO_PROXY, DROP_NO_ROUTE, DROP_RETRY, DROP_TTL, FORWARDED,
+};
+use peer::hall::Hall;
+use peer::ports::part;
+use peer::route::first_link;
+
+use super::packets::Far;
+
+/// One thing that an input did.
+#[derive(Debug, Clone, Copy, PartialEq, Eq, PartialOrd, Ord)]
+pub enum Event {
+    /// The step or the journey ended so.
+    Ending(u32),
+    /// A step made so many reroutes.
+    Reroutes(u32),
+    /// A reroute set a proxy.
+    Set,
+    /// A reroute cleared a proxy.
+    Cleared,
+    /// In a hall of top level k a packet at its proxy found a link of a level of no use, and a new proxy.
+    Arrived { k: u32, level: u32 },
+}
+
+/// What every comparison of steps has to meet.
+pub const STEP: &[Event] = &[
+    Event::Ending(FORWARDED),
+    Event::Ending(DROP_TTL),
+    Event::Ending(DROP_NO_ROUTE),
+    Event::Ending(DROP_RETRY),
+    Event::Ending(DROP_NO_PROXY),
+    Event::Ending(DELIVERED),
+    Event::Reroutes(0),
+    Event::Reroutes(1),
+    Event::Reroutes(2),
+    Event::Set,
+    Event::Cleared,
+    Event::Arrived { k: 1, level: 1 },
+    Event::Arrived { k: 2, level: 1 },
+    Event::Arrived { k: 2, level: 2 },
+    Event::Arrived { k: 3, level: 1 },
+    Event::Arrived { k: 3, level: 2 },
+    Event::Arrived { k: 3, level: 3 },
+];
+
+/// What every comparison of journeys has to meet.
+pub const JOURNEY: &[Event] = &[
+    Event::Ending(DROP_TTL),
+    Event::Ending(DROP_NO_ROUTE),
+    Event::Ending(DROP_RETRY),
+    Event::Ending(DROP_NO_PROXY),
+    Event::Ending(DELIVERED),
+    Event::Reroutes(0),
+    Event::Reroutes(1),
+    Event::Reroutes(2),
+    Event::Set,
+    Event::Cleared,
+    Event::Arrived { k: 1, level: 1 },
+    Event::Arrived { k: 2, level: 1 },
+    Event::Arrived { k: 2, level: 2 },
+    Event::Arrived { k: 3, level: 1 },
+    Event::Arrived { k: 3, level: 2 },
+    Event::Arrived { k: 3, level: 3 },
+];
+
+impl Display for Event {
+    /// The event in the words of the rules.
+    fn fmt(&self, f: &mut Formatter<'_>) -> fmt::Result {
+        match *self {
+            Event::Ending(ending) => f.write_str(ending_words(ending)),
+            Event::Reroutes(1) => f.write_str("1 reroute"),
+            Event::Reroutes(count) => write!(f, "{count} reroutes"),
+            Event::Set => f.write_str("proxy set"),
+            Event::Cleared => f.write_str("proxy cleared"),
+            Event::Arrived { k, level } => {
+                write!(f, "arrived k={k} link {level} m={}", m(k, level))
+            }
+        }
+    }
+}
+
+/// How often each event was met.
+#[derive(Debug, Default, Clone, PartialEq, Eq)]
+pub struct Met(BTreeMap<Event, u64>);
+
+impl Met {
+    /// Counts an event.
+    pub fn add(&mut self, event: Event) {
+        *self.0.entry(event).or_default() += 1;
+    }
+
+    /// Those of the events that were never met.
+    pub fn unmet(&self, events: &[Event]) -> Vec<Event> {
+        let unmet = events.iter().filter(|event| !self.0.contains_key(event));
+        unmet.copied().collect()
+    }
+
+    /// A text for each event that was met.
+    pub fn texts(&self) -> impl Iterator<Item = String> + '_ {
+        let each = |(event, count): (&Event, &u64)| format!("{event}: {count}");
+        self.0.iter().map(each)
+    }
+
+    /// Counts what a step did with a packet that came to a server.
+    pub fn add_step(&mut self, h: Hall, uid: u32, came: &Packet, answer: &Step) {
+        self.add(Event::Reroutes(answer.reroutes));
+        let set = set_by(answer);
+        if set {
+            self.add(Event::Set);
+        }
+        if answer.reroutes > u32::from(set) {
+            self.add(Event::Cleared);
+        }
+        if set && answer.reroutes == 1 && came.has_proxy && came.proxy == uid {
+            if let Some((_, _, level)) = first_link(h, uid, came.dst) {
+                self.add(Event::Arrived { k: h.k, level });
+            }
+        }
+    }
+
+    /// Counts what the steps of a sound journey did and how it ended.
+    pub fn add_journey(&mut self, at: &Far) {
+        let (mut uid, mut packet) = (at.uid, at.packet);
+        loop {
+            let answer = step(at.hall, uid, packet, part(at.hall, &at.table, uid).1);
+            self.add_step(at.hall, uid, &packet, &answer);
+            if answer.ending == FORWARDED {
+                (uid, packet) = (answer.next, answer.packet);
+                continue;
+            }
+            self.add(Event::Ending(answer.ending));
+            return;
+        }
+    }
+}
+
+/// The words for an ending.
+fn ending_words(ending: u32) -> &'static str {
+    match ending {
+        FORWARDED => "forwarded",
+        DROP_TTL => "drop 1",
+        DROP_NO_ROUTE => "drop 2",
+        DROP_RETRY => "drop 3",
+        DROP_NO_PROXY => "drop 4",
+        DELIVERED => "delivered",
+        _ => "no ending",
+    }
+}
+
+/// The level that an arrived packet looks for a proxy from, where a link of a level is of no use.
+fn m(k: u32, level: u32) -> u32 {
+    k.min(level + 1)
+}
+
+/// Whether a step set a proxy: the last of its reroutes did, where it sends the packet on to one.
+fn set_by(answer: &Step) -> bool {
+    answer.ending == FORWARDED && answer.reroutes > 0 && answer.packet.has_proxy
+}
+
+#[cfg(test)]
+mod tests {
+    use super::*;
+    use crate::compare::packets::any_near;
+    use crate::compare::tables::Table;
+    use peer::random::Random;
+
+    const HALL: Hall = Hall { n: 4, k: 1, b: 0 };
+
+    /// A packet over a proxy to server 19.
+    fn over(proxy: u32, retry: u8) -> Packet {
+        Packet {
+            dst: 19,
+            has_proxy: true,
+            proxy,
+            retry,
+            ttl: 9,
+        }
+    }
+
+    /// What one step does in a cell of server 0 with these ports down.
+    fn step_events(packet: Packet, down: &[usize]) -> Vec<String> {
+        let mut codes = [1; 8];
+        for &place in down {
+            codes[place] = 2;
+        }
+        let mut met = Met::default();
+        met.add_step(HALL, 0, &packet, &step(HALL, 0, packet, &codes));
+        met.texts().collect()
+    }
+
+    #[test]
+    fn a_proxy_that_is_cleared_and_one_that_is_set_are_told_apart() {
+        let both = ["2 reroutes: 1", "proxy set: 1", "proxy cleared: 1"];
+        assert_eq!(step_events(over(1, 5), &[2, 7]), both);
+        let cleared = ["1 reroute: 1", "proxy cleared: 1"];
+        assert_eq!(step_events(over(1, 5), &[2]), cleared);
+        assert_eq!(step_events(over(1, 2), &[2, 7]), cleared);
+        assert_eq!(step_events(over(4, 5), &[]), ["0 reroutes: 1"]);
+    }
+
+    #[test]
+    fn a_packet_that_arrived_is_told_where_it_gets_a_new_proxy() {
+        let arrived = ["1 reroute: 1", "proxy set: 1", "arrived k=1 link 1 m=1: 1"];
+        assert_eq!(step_events(over(0, 5), &[7]), arrived);
+        assert_eq!(step_events(over(0, 1), &[7]), ["0 reroutes: 1"]);
+        assert_eq!(step_events(over(0, 5), &[]), ["0 reroutes: 1"]);
+    }
+
+    #[test]
+    fn a_journey_tells_its_steps_and_its_ending() {
+        let mut codes = vec![1; 40];
+        (codes[7], codes[33]) = (2, 2);
+        let at = Far {
+            hall: HALL,
+            uid: 0,
+            packet: Packet {
+                has_proxy: false,
+                ..over(0, 5)
+            },
+            flag: 0,
+            table: Table::Own(codes),
+        };
+        let mut met = Met::default();
+        met.add_journey(&at);
+        let told = [
+            "delivered: 1",
+            "0 reroutes: 4",
+            "1 reroute: 1",
+            "proxy set: 1",
+        ];
+        assert_eq!(met.texts().collect::<Vec<String>>(), told);
+    }
+
+    #[test]
+    fn every_event_of_a_step_is_drawn_more_than_now_and_then() {
+        let mut random = Random::new(1);
+        let mut met = Met::default();
+        for _ in 0..100_000 {
+            let at = any_near(&mut random);
+            let answer = step(at.hall, at.uid, at.packet, &at.codes);
+            if answer.refusal == 0 {
+                met.add(Event::Ending(answer.ending));
+                met.add_step(at.hall, at.uid, &at.packet, &answer);
+            }
+        }
+        let rare = |event: &&Event| met.0.get(event).is_none_or(|&count| count < 10);
+        assert_eq!(
+            STEP.iter().filter(rare).collect::<Vec<_>>(),
+            [] as [&Event; 0]
+        );
+    }
+}
