@@ -5,12 +5,16 @@ use std::fmt::{self, Display, Formatter};
 
 use peer::forward::{
     step, Packet, Step, DELIVERED, DROP_NO_PROXY, DROP_NO_ROUTE, DROP_RETRY, DROP_TTL, FORWARDED,
+    JOURNEY_ROOM,
 };
 use peer::hall::Hall;
 use peer::ports::part;
 use peer::route::first_link;
 
 use super::packets::Far;
+
+/// The most links of a journey.
+pub const MOST_LINKS: usize = JOURNEY_ROOM - 1;
 
 /// One thing that an input did.
 #[derive(Debug, Clone, Copy, PartialEq, Eq, PartialOrd, Ord)]
@@ -25,6 +29,8 @@ pub enum Event {
     Cleared,
     /// In a hall of top level k a packet at its proxy found a link of a level of no use, and a new proxy.
     Arrived { k: u32, level: u32 },
+    /// The journey crossed the most links and ended so.
+    Longest(u32),
 }
 
 /// What every comparison of steps has to meet.
@@ -66,6 +72,8 @@ pub const JOURNEY: &[Event] = &[
     Event::Arrived { k: 3, level: 1 },
     Event::Arrived { k: 3, level: 2 },
     Event::Arrived { k: 3, level: 3 },
+    Event::Longest(DROP_TTL),
+    Event::Longest(DELIVERED),
 ];
 
 impl Display for Event {
@@ -79,6 +87,9 @@ impl Display for Event {
             Event::Cleared => f.write_str("proxy cleared"),
             Event::Arrived { k, level } => {
                 write!(f, "arrived k={k} link {level} m={}", m(k, level))
+            }
+            Event::Longest(ending) => {
+                write!(f, "{} after {MOST_LINKS} links", ending_words(ending))
             }
         }
     }
@@ -123,10 +134,10 @@ impl Met {
         }
     }
 
-    /// Counts what the steps of a sound journey did and how it ended.
+    /// Counts what the steps of a sound journey did, how it ended, and whether it crossed the most links.
     pub fn add_journey(&mut self, at: &Far) {
         let (mut uid, mut packet) = (at.uid, at.packet);
-        loop {
+        for links in 0.. {
             let answer = step(at.hall, uid, packet, part(at.hall, &at.table, uid).1);
             self.add_step(at.hall, uid, &packet, &answer);
             if answer.ending == FORWARDED {
@@ -134,6 +145,9 @@ impl Met {
                 continue;
             }
             self.add(Event::Ending(answer.ending));
+            if links == MOST_LINKS {
+                self.add(Event::Longest(answer.ending));
+            }
             return;
         }
     }

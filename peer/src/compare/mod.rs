@@ -20,6 +20,7 @@ pub mod table1;
 mod tables;
 pub mod tally;
 mod texts;
+mod trails;
 
 use calls::{Listed, CALLS};
 use tally::{Effort, Tally};

@@ -9,6 +9,7 @@ use super::inputs::{any_hall, any_uid, servers, sizes};
 use super::tables::{
     any_codes, any_hall_table, any_length, cell_codes, codes, sound_hall_table, Table,
 };
+use super::trails::any_longest;
 
 /// The bytes of a step's answer: eight words of four.
 const STEP_BYTES: usize = 32;
@@ -16,6 +17,8 @@ const STEP_BYTES: usize = 32;
 const RETRIES: u32 = MOST_RETRY as u32 + 2;
 /// One proxy in so many is the server that the packet is at, besides those drawn so by chance.
 const ARRIVED: u32 = 6;
+/// One journey in so many crosses the most links.
+const LONGEST: u32 = 1000;
 
 /// A packet at a server, with the table of the server's cell.
 #[derive(Debug)]
@@ -54,8 +57,14 @@ pub fn any_near(random: &mut Random) -> Near {
     }
 }
 
-/// Any packet on a journey from any server, with any hall table.
+/// Any packet on a journey from any server, with any hall table, or one that crosses the most links.
 pub fn any_far(random: &mut Random) -> Far {
+    let longest = random.once_in(LONGEST).then(|| any_longest(random));
+    longest.flatten().unwrap_or_else(|| any_journey(random))
+}
+
+/// Any packet on a journey from any server, with any hall table.
+fn any_journey(random: &mut Random) -> Far {
     let hall = any_hall(random);
     let uid = any_uid(random, hall);
     let (packet, flag) = any_packet(random, hall, uid);

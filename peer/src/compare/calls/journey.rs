@@ -9,6 +9,7 @@ use crate::compare::cases::{by_b_and_share, Case};
 use crate::compare::events::{self, Event, Met};
 use crate::compare::packets::{any_far, sound_far, Far};
 use crate::compare::room::{told, Room};
+use crate::compare::trails::edge_longest;
 use crate::rattle;
 
 /// The random journeys of a short comparison of each call that makes one.
@@ -67,8 +68,9 @@ impl Call for Journey {
     }
 }
 
-/// Journeys of one seed, for every comparison.
+/// Journeys of one seed, for every comparison, and those that cross the most links.
 pub fn tried() -> impl Iterator<Item = Far> {
     let mut random = Random::new(3);
-    (0..TRIED).map(move |_| any_far(&mut random))
+    let tried = (0..TRIED).map(move |_| any_far(&mut random));
+    tried.chain(edge_longest())
 }
