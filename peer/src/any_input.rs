@@ -2,8 +2,7 @@
 
 use crate::forward::{journey, step, Packet};
 use crate::hall::{
-    b_fits, cell, ends_over, is_valid, k_fits, link, n_fits, neighbour, neighbour_over, servers_of,
-    sizes, tuple_of, uid_of, Hall,
+    b_fits, cell, k_fits, link, n_fits, neighbour, servers_of, sizes, tuple_of, uid_of, Hall,
 };
 use crate::random::Random;
 use crate::route::{first_link, route, route_words};
@@ -87,9 +86,9 @@ fn hall_and_route_calls_answer_any_numbers() {
         assert!([0, 1, 2, 3].contains(&cell(h, x, level).refusal));
         assert!([0, 1, 2, 3].contains(&neighbour(h, x, level).refusal));
         assert!([0, 1, 2, 3].contains(&link(h, x, level, p, q).refusal));
-        assert_eq!(is_valid(h), sizes(h).refusal == 0);
-        assert!(!is_valid(h) || n_fits(h.n) && k_fits(h.n, h.k) && b_fits(h.k, h.b));
-        assert_eq!(is_valid(h), servers_of(h) > 0);
+        let fits = n_fits(h.n) && k_fits(h.n, h.k) && b_fits(h.k, h.b);
+        assert_eq!(fits, sizes(h).refusal == 0);
+        assert_eq!(fits, servers_of(h) > 0);
         let answer = route(h, x, y);
         let first = first_link(h, x, y);
         assert!(answer.refusal == 0 || first.is_none());
@@ -104,30 +103,6 @@ fn hall_and_route_calls_answer_any_numbers() {
             other => assert_eq!(refusal, other),
         }
         assert!(refusal == 0 || room == [0xEE; 64]);
-    }
-}
-
-#[test]
-fn calls_over_any_size_answer_any_numbers() {
-    let mut random = Random::new(105);
-    for _ in 0..100_000 {
-        let [size, x, y] = [(); 3].map(|()| number(&mut random));
-        let other = neighbour_over(size, x);
-        let (near, far) = ends_over(size, x, y);
-        if size == 0 {
-            assert_eq!([other, near, far], [0; 3]);
-            continue;
-        }
-        let cell = (u64::from(size) + 1) * u64::from(size);
-        let first = u64::from(x) / cell * cell;
-        assert_eq!(other / cell * cell, first);
-        assert!([near, far]
-            .iter()
-            .all(|end| (0..=cell).contains(&(end - first))));
-        if let Ok(narrow) = u32::try_from(other) {
-            assert_eq!(neighbour_over(size, narrow), u64::from(x));
-            assert_eq!(ends_over(size, x, narrow), (u64::from(x), other));
-        }
     }
 }
 

@@ -167,7 +167,7 @@ pub fn b_fits(k: u32, b: u32) -> bool {
 
 /// Whether n, k and b are all in their ranges.
 #[inline]
-pub fn is_valid(h: Hall) -> bool {
+fn is_valid(h: Hall) -> bool {
     n_fits(h.n) && k_fits(h.n, h.k) && b_fits(h.k, h.b)
 }
 
@@ -306,54 +306,6 @@ pub fn link(h: Hall, uid: u32, level: u32, p: u32, q: u32) -> Link {
         refusal: refusal::NONE,
         from: first + p * size + door(p, q),
         to: first + q * size + door(q, p),
-    }
-}
-
-/// The neighbour of any uid at the level whose sub-cells have any size; 0 where the size is 0.
-pub fn neighbour_over(size: u32, uid: u32) -> u64 {
-    let Some(own) = Standing::of(size, uid) else {
-        return 0;
-    };
-    let other = joined_cell(own.sub_cell, own.inside);
-    end_over(size, own.first, other, own.sub_cell)
-}
-
-/// The ends of the link from the sub-cell of x to that of y, both of any size, in the DCell of x; zeros where the size is 0.
-pub fn ends_over(size: u32, x: u32, y: u32) -> (u64, u64) {
-    let (Some(near), Some(far)) = (Standing::of(size, x), Standing::of(size, y)) else {
-        return (0, 0);
-    };
-    let (p, q) = (near.sub_cell, far.sub_cell);
-    (
-        end_over(size, near.first, p, q),
-        end_over(size, near.first, q, p),
-    )
-}
-
-/// The end in sub-cell p of its link to sub-cell q, in the DCell that begins at server `first` and has sub-cells of a size.
-#[inline]
-fn end_over(size: u32, first: u32, p: u32, q: u32) -> u64 {
-    u64::from(first) + u64::from(p) * u64::from(size) + u64::from(door(p, q))
-}
-
-/// Where a server stands: the first uid of its DCell, its sub-cell there, and its uid inside this.
-struct Standing {
-    first: u32,
-    sub_cell: u32,
-    inside: u32,
-}
-
-impl Standing {
-    /// The standing of a server at the level whose sub-cells have a size; none where that is 0.
-    #[inline]
-    fn of(size: u32, uid: u32) -> Option<Standing> {
-        let below = uid.checked_div(size)?;
-        let sub_cell = (u64::from(below) % (u64::from(size) + 1)) as u32;
-        Some(Standing {
-            first: (below - sub_cell) * size,
-            sub_cell,
-            inside: uid - below * size,
-        })
     }
 }
 
@@ -628,84 +580,5 @@ mod tests {
                 }
             }
         }
-    }
-
-    #[test]
-    fn a_neighbour_over_a_size_is_that_of_the_level_with_such_sub_cells() {
-        for h in naive::small_halls() {
-            for uid in 0..naive::servers(h) {
-                for level in 1..=h.k {
-                    let other = neighbour(h, uid, level).uid;
-                    let size = naive::size(h.n, level - 1);
-                    assert_eq!(neighbour_over(size, uid), u64::from(other));
-                }
-            }
-        }
-    }
-
-    #[test]
-    fn a_neighbour_over_any_size_is_the_one_the_link_rule_joins() {
-        for size in 1..8 {
-            let cell = (size + 1) * size;
-            let joined = |x: u32, y: u32| {
-                let (p, q) = (x % cell / size, y % cell / size);
-                x / cell == y / cell && p < q && x % size == q - 1 && y % size == p
-            };
-            for uid in 0..3 * cell {
-                let linked = |&other: &u32| joined(uid, other) || joined(other, uid);
-                let all: Vec<u32> = (0..3 * cell).filter(linked).collect();
-                assert_eq!(all.len(), 1);
-                assert_eq!(neighbour_over(size, uid), u64::from(all[0]));
-            }
-        }
-    }
-
-    #[test]
-    fn a_neighbour_over_a_wide_size_is_not_cut() {
-        let most = u64::from(u32::MAX);
-        assert_eq!(neighbour_over(u32::MAX, u32::MAX - 1), most * most);
-        assert_eq!(neighbour_over(u32::MAX, u32::MAX), 0);
-        assert_eq!(neighbour_over(u32::MAX, 0), most);
-        assert_eq!(neighbour_over(70_000, 69_999), 70_000 * 70_000);
-        assert_eq!(neighbour_over(1, u32::MAX), most - 1);
-        assert_eq!(neighbour_over(0, 7), 0);
-    }
-
-    #[test]
-    fn ends_over_a_size_are_those_of_the_link_at_the_level_with_such_sub_cells() {
-        for h in [Hall { n: 2, k: 3, b: 0 }, Hall { n: 4, k: 2, b: 1 }] {
-            let count = naive::servers(h);
-            for (x, y) in (0..count).flat_map(|x| (0..count).step_by(11).map(move |y| (x, y))) {
-                for level in 1..=h.k {
-                    let place = level as usize;
-                    let (p, q) = (naive::tuple(h, x)[place], naive::tuple(h, y)[place]);
-                    if p == q {
-                        continue;
-                    }
-                    let link = link(h, x, level, p, q);
-                    let ends = ends_over(naive::size(h.n, level - 1), x, y);
-                    assert_eq!(ends, (u64::from(link.from), u64::from(link.to)));
-                }
-            }
-        }
-    }
-
-    #[test]
-    fn ends_over_any_size_stay_in_the_cell_of_x_and_take_equal_sub_cells() {
-        assert_eq!(ends_over(4, 0, 19), (3, 16));
-        assert_eq!(ends_over(4, 19, 0), (16, 3));
-        assert_eq!(ends_over(4, 20, 19), (23, 36));
-        assert_eq!(ends_over(4, 19, 20), (16, 3));
-        assert_eq!(ends_over(4, 5, 6), (5, 5));
-        assert_eq!(ends_over(4, 39, 18), (40, 40));
-        assert_eq!(ends_over(0, 5, 6), (0, 0));
-        let most = u64::from(u32::MAX);
-        assert_eq!(ends_over(u32::MAX, u32::MAX, 0), (most, 0));
-        assert_eq!(ends_over(u32::MAX, 0, u32::MAX), (0, most));
-        assert_eq!(
-            ends_over(u32::MAX, u32::MAX, u32::MAX),
-            (most + 1, most + 1)
-        );
-        assert_eq!(ends_over(1, u32::MAX, 0), (most, most - 1));
     }
 }

@@ -210,11 +210,7 @@ mod foreign {
         pub fn calls_n_fits(n: u32) -> bool;
         pub fn calls_k_fits(n: u32, k: u32) -> bool;
         pub fn calls_b_fits(k: u32, b: u32) -> bool;
-        pub fn calls_is_valid(n: u32, k: u32, b: u32) -> bool;
         pub fn calls_servers(n: u32, k: u32, b: u32) -> u32;
-        pub fn calls_neighbour_over(size: u32, uid: u32) -> u64;
-        pub fn calls_near_end_over(size: u32, x: u32, y: u32) -> u64;
-        pub fn calls_far_end_over(size: u32, x: u32, y: u32) -> u64;
         pub fn calls_first_link(
             n: u32,
             k: u32,
@@ -439,34 +435,10 @@ pub fn b_fits(k: u32, b: u32) -> bool {
     unsafe { foreign::calls_b_fits(k, b) }
 }
 
-/// Whether there is such a hall.
-#[inline]
-pub fn is_valid(h: Hall) -> bool {
-    unsafe { foreign::calls_is_valid(h.n, h.k, h.b) }
-}
-
 /// The servers of a hall; 0 where there is no such hall.
 #[inline]
 pub fn servers(h: Hall) -> u32 {
     unsafe { foreign::calls_servers(h.n, h.k, h.b) }
-}
-
-/// Who is joined to a server over sub-cells of a size.
-#[inline]
-pub fn neighbour_over(size: u32, uid: u32) -> u64 {
-    unsafe { foreign::calls_neighbour_over(size, uid) }
-}
-
-/// The end on the side of x of the link between the sub-cells of x and y, over sub-cells of a size.
-#[inline]
-pub fn near_end_over(size: u32, x: u32, y: u32) -> u64 {
-    unsafe { foreign::calls_near_end_over(size, x, y) }
-}
-
-/// Its end on the side of y.
-#[inline]
-pub fn far_end_over(size: u32, x: u32, y: u32) -> u64 {
-    unsafe { foreign::calls_far_end_over(size, x, y) }
 }
 
 /// The check of a hall table: its refusal.

@@ -13,7 +13,6 @@ mod complement;
 mod distances;
 mod distances_origin;
 mod driver_route;
-mod end;
 mod end_line;
 mod first_link;
 mod first_unknown;
@@ -21,14 +20,12 @@ mod fits;
 mod hall_line;
 mod is_known;
 mod is_up;
-mod is_valid;
 mod journey;
 mod journey_counts;
 mod journey_line;
 mod link;
 mod n_fits;
 mod neighbour;
-mod neighbour_over;
 mod next_hop;
 mod next_identification;
 mod opening_line;
@@ -82,11 +79,7 @@ pub const CALLS: &[Listed] = &[
     listed::<n_fits::NFits>(),
     listed::<fits::Fits<false>>(),
     listed::<fits::Fits<true>>(),
-    listed::<is_valid::IsValid>(),
     listed::<servers::Servers>(),
-    listed::<neighbour_over::NeighbourOver>(),
-    listed::<end::End<false>>(),
-    listed::<end::End<true>>(),
     listed::<route::Route>(),
     listed::<route_links::RouteLinks>(),
     listed::<driver_route::DriverRoute>(),
