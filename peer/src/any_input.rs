@@ -123,7 +123,7 @@ fn table_calls_answer_any_numbers_and_bytes() {
             .is_none_or(|&code| !ports::is_known(code)));
         assert!(checked.refusal != 0 || unknown == whole.len());
         let port = number(&mut random);
-        assert!(!ports::is_up(h, &whole, x, port) || (port as usize) < whole.len());
+        assert!(!ports::is_up(h, &whole, x, port) || port <= h.k);
         let (refusal, part) = ports::part(h, &whole, x);
         assert_eq!(refusal == 0, !part.is_empty());
         let away = local::distances(h, x, &own);

@@ -63,9 +63,12 @@ pub(crate) fn cell_part<'a>(
     table.get(start..end).unwrap_or(&[])
 }
 
-/// Whether a port of a server has code 1 in a table of k + 1 ports a server; no port behind the table's end has.
+/// Whether a port of a server has code 1 in a table of k + 1 ports a server; no port above k has, and none behind the table's end.
 #[inline]
 pub fn is_up(h: Hall, table: &[u8], server: u32, port: u32) -> bool {
+    if port > h.k {
+        return false;
+    }
     let place = u64::from(server) * (u64::from(h.k) + 1) + u64::from(port);
     usize::try_from(place).is_ok_and(|place| table.get(place) == Some(&UP))
 }
@@ -178,13 +181,23 @@ mod tests {
     fn a_port_is_up_when_its_byte_is_there_and_is_1() {
         let table: Vec<u8> = (0..40).map(|i| i % 5).collect();
         for server in 0..25 {
-            for port in 0..4 {
+            for port in 0..2 {
                 let place = server * 2 + port;
                 let up = place < 40 && place % 5 == 1;
                 assert_eq!(is_up(HALL, &table, server, port), up);
             }
         }
         assert!(!is_up(HALL, &[], 0, 0));
+    }
+
+    #[test]
+    fn a_port_above_k_is_never_up() {
+        for k in 0..4 {
+            for port in k + 1..20 {
+                assert!(!is_up(Hall { n: 4, k, b: 0 }, &[1; 80], 0, port));
+            }
+        }
+        assert!(!is_up(HALL, &[1; 40], 0, u32::MAX));
     }
 
     #[test]

@@ -1,6 +1,6 @@
 //! Whether a port of a server is up.
 
-use peer::hall::Hall;
+use peer::hall::{Hall, LEVELS};
 use peer::ports::{self, UP};
 use peer::random::Random;
 
@@ -17,6 +17,8 @@ const SHORT: u32 = 64;
 const TRIED: usize = 9;
 /// The k of the halls that these tables are tried with; with the highest no server but the first has a code there.
 const KS: [u32; 4] = [0, 1, 3, u32::MAX];
+/// One port in so many is a little above k, where the table has the codes of the next server.
+const ABOVE: u32 = 8;
 /// A code that is not up.
 const DOWN: u8 = 2;
 
@@ -51,7 +53,9 @@ impl Value for IsUp {
     fn edges() -> impl Iterator<Item = Input> {
         let places = (0..=TRIED).flat_map(|length| (0..=length).map(move |place| (length, place)));
         let codes = places.flat_map(|at| (0..=u8::MAX).map(move |code| (at, code)));
-        codes.flat_map(|((length, place), code)| KS.map(|k| tried(length, place, code, k)))
+        let own =
+            codes.flat_map(|((length, place), code)| KS.map(|k| tried(length, place, code, k)));
+        own.flat_map(|input| [above(&input), Some(input)]).flatten()
     }
 
     fn cases() -> Vec<Case<Input>> {
@@ -72,7 +76,11 @@ fn in_hall(random: &mut Random) -> Input {
     let hall = light_hall(random);
     let table = any_hall_table(random, hall);
     let server = any_uid(random, hall);
-    let port = around(random, hall.k.saturating_add(1));
+    let port = if random.once_in(ABOVE) {
+        hall.k.saturating_add(1 + random.below(LEVELS as u32))
+    } else {
+        around(random, hall.k.saturating_add(1))
+    };
     Input {
         hall,
         table,
@@ -116,6 +124,16 @@ fn tried(length: usize, place: usize, code: u8, k: u32) -> Input {
     }
 }
 
+/// The same place as a port above k of the server before, where there is one.
+fn above(input: &Input) -> Option<Input> {
+    Some(Input {
+        hall: input.hall,
+        table: Table::Own(input.table.to_vec()),
+        server: input.server.checked_sub(1)?,
+        port: input.port.checked_add(input.hall.k)?.checked_add(1)?,
+    })
+}
+
 /// A port of a server of a sound hall, with so many in a hundred codes not up.
 fn sound(random: &mut Random, hall: Hall, not_up: u32) -> Input {
     let (table, server) = sound_hall_table(random, hall, not_up);
@@ -133,15 +151,21 @@ mod tests {
     use super::*;
 
     #[test]
-    fn ports_that_are_up_that_are_not_and_those_behind_a_table_are_drawn() {
+    fn ports_that_are_up_that_are_not_those_behind_a_table_and_above_k_are_drawn() {
         let mut random = Random::new(1);
-        let mut met = [0; 3];
+        let mut met = [0; 4];
         for _ in 0..2000 {
             let input = IsUp::any(&mut random);
             let place = u64::from(input.server) * (u64::from(input.hall.k) + 1);
             let code = input.table.get((place + u64::from(input.port)) as usize);
-            met[code.map_or(2, |&code| usize::from(code == UP))] += 1;
+            let kind = match code {
+                Some(&UP) if input.port > input.hall.k => 3,
+                Some(&UP) => 1,
+                Some(_) => 0,
+                None => 2,
+            };
+            met[kind] += 1;
         }
-        assert!(met.iter().all(|&count| count > 200), "{met:?}");
+        assert!(met.iter().all(|&count| count > 100), "{met:?}");
     }
 }
