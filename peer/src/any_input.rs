@@ -174,7 +174,9 @@ fn frame_calls_answer_any_bytes_and_fields() {
         }
         let header = frame::read(&bytes);
         assert!([0, 7, 8, 9, 11].contains(&header.refusal));
-        assert_eq!(frame::payload(&bytes).len() as u32, header.payload_length);
+        let (refusal, payload) = frame::payload(&bytes);
+        assert_eq!(refusal, header.refusal);
+        assert_eq!(payload.len() as u32, header.payload_length);
     }
 }
 
@@ -197,7 +199,7 @@ fn sheet_calls_answer_any_bytes() {
         let read = sheet::read(&bytes);
         let first = sheet::packet(&bytes, 0);
         let fields = sheet::packet_fields(&bytes, number(&mut random));
-        assert_eq!((fields.refusal, fields.place), (0, 0));
+        assert!([0, 3].contains(&fields.refusal) && fields.place == 0);
         let at = number(&mut random) as usize;
         assert!(at + 4 <= bytes.len() || sheet::word_at(&bytes, at) == 0);
         assert_eq!(sheet::word_at(&bytes, 0), 3);

@@ -83,14 +83,15 @@ pub fn read(frame: &[u8]) -> Header {
     }
 }
 
-/// The payload of a frame; empty for a refused one.
-pub fn payload(frame: &[u8]) -> &[u8] {
-    let Ok(header) = parse(frame) else {
-        return &[];
+/// The refusal, or the payload of a frame; empty for a refused one.
+pub fn payload(frame: &[u8]) -> (u32, &[u8]) {
+    let header = match parse(frame) {
+        Ok(header) => header,
+        Err(refusal) => return (refusal, &[]),
     };
     let start = header.header_length as usize;
     let end = start + header.payload_length as usize;
-    frame.get(start..end).unwrap_or(&[])
+    (refusal::NONE, frame.get(start..end).unwrap_or(&[]))
 }
 
 /// Writes a header to the start of the room; answers the refusal.
@@ -565,11 +566,11 @@ mod tests {
         frame[20..].copy_from_slice(&[1, 2, 3, 4, 5, 6]);
         for length in 20..23 {
             assert_eq!(read(&frame[..length]), refused(7));
-            assert!(payload(&frame[..length]).is_empty());
+            assert_eq!(payload(&frame[..length]), (7, &[][..]));
         }
         for length in 23..=26 {
             assert_eq!(read(&frame[..length]), expected(&fields));
-            assert_eq!(payload(&frame[..length]), [1, 2, 3]);
+            assert_eq!(payload(&frame[..length]), (0, &[1, 2, 3][..]));
         }
     }
 
@@ -616,7 +617,7 @@ mod tests {
             let sum = literal_checksum(&frame[..length]);
             assert_eq!(frame[10..12], sum.to_be_bytes());
             assert!(frame[length..].iter().all(|&byte| byte == 0xEE));
-            assert_eq!(payload(&frame).len(), usize::from(fields.payload_length));
+            assert_eq!(payload(&frame).1.len(), usize::from(fields.payload_length));
             assert_ne!(sum, 0xFFFF);
         }
     }

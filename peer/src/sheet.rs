@@ -43,6 +43,20 @@ pub struct SheetPacket {
     pub ttl: u32,
 }
 
+impl SheetPacket {
+    /// A packet that is refused at a place.
+    fn refused(refusal: u32, place: u32) -> SheetPacket {
+        SheetPacket {
+            refusal,
+            place,
+            source: 0,
+            dst: 0,
+            retry: 0,
+            ttl: 0,
+        }
+    }
+}
+
 /// Reads a sheet.
 pub fn read(sheet: &[u8]) -> Sheet {
     match parse(sheet) {
@@ -75,22 +89,12 @@ pub fn codes(sheet: &[u8]) -> &[u8] {
 
 /// The packet of an index, from 0 on.
 pub fn packet(sheet: &[u8], i: u32) -> SheetPacket {
-    let refused = |refusal, place| SheetPacket {
-        refusal,
-        place,
-        source: 0,
-        dst: 0,
-        retry: 0,
-        ttl: 0,
-    };
     let parts = match parse(sheet) {
         Ok(parts) => parts,
-        Err(fault) => return refused(fault.refusal, fault.place),
+        Err(fault) => return SheetPacket::refused(fault.refusal, fault.place),
     };
-    match parts.packets.get(i as usize) {
-        Some(bytes) => packet_of(bytes),
-        None => refused(refusal::RANGE, 0),
-    }
+    let bytes = parts.packets.get(i as usize);
+    bytes.map_or(SheetPacket::refused(refusal::RANGE, 0), packet_of)
 }
 
 /// As many bytes behind the second count as it says, whatever else the sheet holds; none where they are not all there.
@@ -98,11 +102,12 @@ pub fn codes_part(sheet: &[u8]) -> &[u8] {
     split_behind_codes(sheet).map_or(&[], |(codes, _)| codes)
 }
 
-/// The fields of the packet of an index by their place alone, whatever else the sheet holds; zeros where they are not all there.
+/// The fields of the packet of an index by their place alone, whatever else the sheet holds; refused where they are not all there.
 pub fn packet_fields(sheet: &[u8], i: u32) -> SheetPacket {
     let behind = split_behind_codes(sheet).and_then(|(_, behind)| behind.get(COUNT_BYTES..));
     let (packets, _) = behind.unwrap_or(&[]).as_chunks();
-    packet_of(packets.get(i as usize).unwrap_or(&[0; PACKET_BYTES]))
+    let bytes = packets.get(i as usize);
+    bytes.map_or(SheetPacket::refused(refusal::RANGE, 0), packet_of)
 }
 
 /// The big-endian number in the four bytes at a place; 0 where they are not all there.
@@ -614,33 +619,36 @@ mod tests {
     }
 
     /// The codes and the fields of a packet by their place, one byte after the other.
-    fn literal_parts(sheet: &[u8], i: u32) -> (&[u8], [u32; 4]) {
+    fn literal_parts(sheet: &[u8], i: u32) -> (&[u8], Option<[u32; 4]>) {
         let length = sheet.len() as u64;
         if length < 11 {
-            return (&[], [0; 4]);
+            return (&[], None);
         }
         let word = |at: u64| (at..at + 4).fold(0, |sum, i| sum << 8 | u32::from(sheet[i as usize]));
         let end = 11 + u64::from(word(7));
         if length < end {
-            return (&[], [0; 4]);
+            return (&[], None);
         }
         let codes = &sheet[11..end as usize];
         let at = end + 4 + u64::from(i) * 10;
         if length < at + 10 {
-            return (codes, [0; 4]);
+            return (codes, None);
         }
         let byte = |at: u64| u32::from(sheet[at as usize]);
-        (codes, [word(at), word(at + 4), byte(at + 8), byte(at + 9)])
+        let fields = [word(at), word(at + 4), byte(at + 8), byte(at + 9)];
+        (codes, Some(fields))
     }
 
-    fn told(fields: [u32; 4]) -> SheetPacket {
+    /// The packet of some fields, or the one that is not there.
+    fn told(fields: Option<[u32; 4]>) -> SheetPacket {
+        let [source, dst, retry, ttl] = fields.unwrap_or_default();
         SheetPacket {
-            refusal: 0,
+            refusal: if fields.is_some() { 0 } else { 3 },
             place: 0,
-            source: fields[0],
-            dst: fields[1],
-            retry: fields[2],
-            ttl: fields[3],
+            source,
+            dst,
+            retry,
+            ttl,
         }
     }
 
@@ -652,7 +660,7 @@ mod tests {
         for i in 0..3 {
             assert_eq!(packet_fields(&sheet, i), packet(&sheet, i));
         }
-        assert_eq!(packet_fields(&sheet, 1), told([7, 19, 5, 15]));
+        assert_eq!(packet_fields(&sheet, 1), told(Some([7, 19, 5, 15])));
     }
 
     #[test]
@@ -663,16 +671,16 @@ mod tests {
         assert_eq!(codes_part(&sheet), [77, 88]);
         assert_eq!(
             packet_fields(&sheet, 0),
-            told([0x0102_0304, 0x0506_0708, 99, 255])
+            told(Some([0x0102_0304, 0x0506_0708, 99, 255]))
         );
-        assert_eq!(packet_fields(&sheet, 1), told([0; 4]));
+        assert_eq!(packet_fields(&sheet, 1), told(None));
     }
 
     #[test]
-    fn the_packet_of_an_index_that_wraps_as_an_offset_is_zeros() {
+    fn the_packet_of_an_index_that_wraps_as_an_offset_is_not_there() {
         let sheet = sample(3);
         for i in [3, 429_496_730, 1 << 31, u32::MAX] {
-            assert_eq!(packet_fields(&sheet, i), told([0; 4]));
+            assert_eq!(packet_fields(&sheet, i), told(None));
         }
     }
 
@@ -683,7 +691,7 @@ mod tests {
             let cut = &sheet[..length];
             assert_eq!(codes_part(cut).len(), if length < COUNT_3 { 0 } else { 40 });
             for (i, end) in [(0, PACKETS + 10), (1, PACKETS + 20)] {
-                let there = if length < end { [0; 4] } else { [0, 19, 5, 15] };
+                let there = (length >= end).then_some([0, 19, 5, 15]);
                 assert_eq!(packet_fields(cut, i), told(there));
             }
         }

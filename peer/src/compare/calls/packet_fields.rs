@@ -1,7 +1,7 @@
 //! The fields of a packet of a sheet by their bytes, whether the sheet is sound or not.
 
 use peer::random::Random;
-use peer::refusal::{NONE, ROOM};
+use peer::refusal::{NONE, RANGE, ROOM};
 use peer::sheet;
 
 use super::sheet::SHEETS;
@@ -29,7 +29,7 @@ impl Call for PacketFields {
     type Rooms = Room<u32>;
 
     const NAME: &'static str = "packet fields";
-    const NUMBERS: &'static [u32] = &[NONE, ROOM];
+    const NUMBERS: &'static [u32] = &[NONE, RANGE, ROOM];
     const INPUTS: u32 = SHEETS;
     const MEASURED: usize = 16;
 

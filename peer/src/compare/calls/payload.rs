@@ -2,7 +2,7 @@
 
 use peer::frame::payload;
 use peer::random::Random;
-use peer::refusal::{NONE, ROOM};
+use peer::refusal::{ADDRESS, CHECKSUM, FIELD, NONE, ROOM, SHORT_FRAME};
 
 use crate::compare::call::Call;
 use crate::compare::cases::Case;
@@ -21,7 +21,7 @@ impl Call for Payload {
     type Rooms = Room<u8>;
 
     const NAME: &'static str = "payload";
-    const NUMBERS: &'static [u32] = &[NONE, ROOM];
+    const NUMBERS: &'static [u32] = &[NONE, ROOM, SHORT_FRAME, FIELD, CHECKSUM, ADDRESS];
     const INPUTS: u32 = 300_000;
 
     fn any(random: &mut Random) -> Vec<u8> {
@@ -33,7 +33,7 @@ impl Call for Payload {
     }
 
     fn rooms(frame: &Vec<u8>, random: &mut Random) -> Room<u8> {
-        let needed = payload(frame).len();
+        let needed = payload(frame).1.len();
         Room::any(random, needed, needed + 4)
     }
 
@@ -54,7 +54,8 @@ impl Call for Payload {
     }
 
     fn peer(frame: &Vec<u8>, room: &mut Room<u8>) -> u32 {
-        told(NONE, payload(frame), room.lent())
+        let (refusal, payload) = payload(frame);
+        told(refusal, payload, room.lent())
     }
 }
 
