@@ -91,10 +91,10 @@ fn hall_and_route_calls_answer_any_numbers() {
         assert_eq!(fits, servers_of(h) > 0);
         let answer = route(h, x, y);
         let first = first_link(h, x, y);
-        assert!(answer.refusal == 0 || first.is_none());
-        assert!(first.is_none_or(|(near, far, _)| {
-            answer.uids.windows(2).any(|pair| pair == [near, far])
-        }));
+        assert_eq!(answer.refusal, first.refusal);
+        let ends = [first.near, first.far];
+        assert!(first.level > 0 || ends == [0, 0]);
+        assert!(first.level == 0 || answer.uids.windows(2).any(|pair| pair == ends));
         let mut room = [0xEE; 64];
         let length = random.below(65) as usize;
         let refusal = route_words(h, x, y, &mut room[..length]);

@@ -217,8 +217,8 @@ mod foreign {
             b: u32,
             x: u32,
             y: u32,
-            near: *mut u32,
-            far: *mut u32,
+            room: *mut u32,
+            length: usize,
         ) -> u32;
         pub fn calls_is_up(
             n: u32,
@@ -513,10 +513,10 @@ pub fn driver_route(h: Hall, x: u32, y: u32, room: &mut [u8]) -> u32 {
     unsafe { foreign::tbexlum_route(h.n, h.k, h.b, x, y, room.as_mut_ptr(), room.len()) }
 }
 
-/// The level of the first link above b of the route from x to y, with its ends written; zeros where there is none.
+/// The level and the ends of the first link above b of the route from x to y; zeros where there is none.
 #[inline]
-pub fn first_link(h: Hall, x: u32, y: u32, near: &mut u32, far: &mut u32) -> u32 {
-    unsafe { foreign::calls_first_link(h.n, h.k, h.b, x, y, near, far) }
+pub fn first_link(h: Hall, x: u32, y: u32, room: &mut [u32]) -> u32 {
+    unsafe { foreign::calls_first_link(h.n, h.k, h.b, x, y, room.as_mut_ptr(), room.len()) }
 }
 
 /// The distances from a server to all of its DCell(b).

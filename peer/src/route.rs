@@ -16,6 +16,15 @@ pub struct Route {
     pub uids: [u32; ROUTE_ROOM],
 }
 
+/// The level and the two ends of a link of a route, the near one in front; zeros where it has no such link.
+#[derive(Debug, Clone, Copy, PartialEq, Eq)]
+pub struct FirstLink {
+    pub refusal: u32,
+    pub level: u32,
+    pub near: u32,
+    pub far: u32,
+}
+
 /// The route from x to y.
 pub fn route(h: Hall, x: u32, y: u32) -> Route {
     let refused = |refusal| Route {
@@ -38,15 +47,31 @@ pub fn route(h: Hall, x: u32, y: u32) -> Route {
     }
 }
 
-/// The near end, the far end and the level of the first link above level b on the route from x to y.
-pub fn first_link(h: Hall, x: u32, y: u32) -> Option<(u32, u32, u32)> {
-    let scale = hall::scale(h)?;
+/// The first link above level b on the route from x to y.
+pub fn first_link(h: Hall, x: u32, y: u32) -> FirstLink {
+    let without = |refusal| FirstLink {
+        refusal,
+        level: 0,
+        near: 0,
+        far: 0,
+    };
+    let Some(scale) = hall::scale(h) else {
+        return without(refusal::HALL);
+    };
     let count = scale.size(h.k);
     if x >= count || y >= count {
-        return None;
+        return without(refusal::UID);
     }
     let way = Way::between(h, scale, x, y);
-    (way.level > 0).then(|| (scale.first(x, h.b) + way.near as u32, way.far, way.level))
+    if way.level == 0 {
+        return without(refusal::NONE);
+    }
+    FirstLink {
+        refusal: refusal::NONE,
+        level: way.level,
+        near: scale.first(x, h.b) + way.near as u32,
+        far: way.far,
+    }
 }
 
 /// Writes the uids of the route from x to y to the start of the room as big-endian words; answers the refusal.
@@ -314,13 +339,23 @@ mod tests {
         }
     }
 
+    /// A link that is not refused, by its level and its ends.
+    fn told([level, near, far]: [u32; 3]) -> FirstLink {
+        FirstLink {
+            refusal: 0,
+            level,
+            near,
+            far,
+        }
+    }
+
     /// The first link above level b, looked for along the route of the definition.
-    fn literal_first_link(h: Hall, x: u32, y: u32) -> Option<(u32, u32, u32)> {
+    fn literal_first_link(h: Hall, x: u32, y: u32) -> FirstLink {
         let servers = naive::route(h, x, y);
         let mut links = servers
             .windows(2)
-            .map(|pair| (pair[0], pair[1], naive::joint_level(h, pair[0], pair[1])));
-        links.find(|&(_, _, level)| level > h.b)
+            .map(|pair| [naive::joint_level(h, pair[0], pair[1]), pair[0], pair[1]]);
+        told(links.find(|link| link[0] > h.b).unwrap_or_default())
     }
 
     #[test]
@@ -347,20 +382,29 @@ mod tests {
 
     #[test]
     fn the_first_link_from_5_to_11_is_4_1_and_above_level_1_it_is_0_6() {
-        assert_eq!(first_link(PAIR_HALL, 5, 11), Some((4, 1, 1)));
+        assert_eq!(first_link(PAIR_HALL, 5, 11), told([1, 4, 1]));
         let wide = Hall { b: 1, ..PAIR_HALL };
-        assert_eq!(first_link(wide, 5, 11), Some((0, 6, 2)));
+        assert_eq!(first_link(wide, 5, 11), told([2, 0, 6]));
     }
 
     #[test]
-    fn there_is_no_first_link_inside_a_local_cell_or_for_what_is_refused() {
-        assert_eq!(first_link(PAIR_HALL, 5, 5), None);
-        assert_eq!(first_link(PAIR_HALL, 5, 4), None);
-        assert_eq!(first_link(Hall { n: 2, k: 2, b: 1 }, 5, 0), None);
-        assert_eq!(first_link(Hall { n: 4, k: 0, b: 0 }, 0, 3), None);
-        assert_eq!(first_link(Hall { n: 2, k: 2, b: 2 }, 5, 11), None);
-        assert_eq!(first_link(PAIR_HALL, 42, 11), None);
-        assert_eq!(first_link(PAIR_HALL, 5, 42), None);
-        assert_eq!(first_link(PAIR_HALL, u32::MAX, u32::MAX), None);
+    fn there_is_no_first_link_inside_a_local_cell() {
+        let none = told([0; 3]);
+        assert_eq!(first_link(PAIR_HALL, 5, 5), none);
+        assert_eq!(first_link(PAIR_HALL, 5, 4), none);
+        assert_eq!(first_link(Hall { n: 2, k: 2, b: 1 }, 5, 0), none);
+        assert_eq!(first_link(Hall { n: 4, k: 0, b: 0 }, 0, 3), none);
+    }
+
+    #[test]
+    fn a_first_link_is_refused_for_the_hall_and_then_for_a_uid() {
+        let refused = |refusal| FirstLink {
+            refusal,
+            ..told([0; 3])
+        };
+        assert_eq!(first_link(Hall { n: 2, k: 2, b: 2 }, 42, 11), refused(1));
+        assert_eq!(first_link(PAIR_HALL, 42, 11), refused(2));
+        assert_eq!(first_link(PAIR_HALL, 5, 42), refused(2));
+        assert_eq!(first_link(PAIR_HALL, u32::MAX, u32::MAX), refused(2));
     }
 }

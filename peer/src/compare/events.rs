@@ -128,9 +128,8 @@ impl Met {
             self.add(Event::Cleared);
         }
         if set && answer.reroutes == 1 && came.has_proxy && came.proxy == uid {
-            if let Some((_, _, level)) = first_link(h, uid, came.dst) {
-                self.add(Event::Arrived { k: h.k, level });
-            }
+            let level = first_link(h, uid, came.dst).level;
+            self.add(Event::Arrived { k: h.k, level });
         }
     }
 

@@ -131,14 +131,15 @@ impl Trail {
         } else {
             packet.dst
         };
-        let Some((near, _, level)) = first_link(self.hall, uid, goal) else {
+        let link = first_link(self.hall, uid, goal);
+        if link.level == 0 {
             self.chain(random, uid, goal);
             return Some(());
-        };
-        let (exit, level) = if packet.retry > SPENT_RETRY && self.turned(uid, near, goal) {
-            (self.exit(random, uid, near)?, self.hall.k)
+        }
+        let (exit, level) = if packet.retry > SPENT_RETRY && self.turned(uid, link.near, goal) {
+            (self.exit(random, uid, link.near)?, self.hall.k)
         } else {
-            (near, level)
+            (link.near, link.level)
         };
         self.raise(exit, level);
         self.chain(random, uid, exit);

@@ -2,9 +2,10 @@
 
 use peer::hall::MOST_B;
 use peer::random::Random;
-use peer::refusal::NONE;
+use peer::refusal::{HALL, NONE, ROOM, UID};
 use peer::route::first_link;
 
+use super::HALL_ROOM;
 use crate::compare::call::Call;
 use crate::compare::cases::{by_b, Case};
 use crate::compare::pairs::Pair;
@@ -14,7 +15,7 @@ use crate::rattle;
 /// The values of the answer: the level, which is 0 where there is no such link, and the two ends.
 const VALUES: usize = 3;
 
-/// The call `calls_first_link`, which returns the level.
+/// The call `calls_first_link`.
 pub struct FirstLink;
 
 impl Call for FirstLink {
@@ -22,7 +23,7 @@ impl Call for FirstLink {
     type Rooms = Room<u32>;
 
     const NAME: &'static str = "first link";
-    const NUMBERS: &'static [u32] = &[NONE];
+    const NUMBERS: &'static [u32] = &[NONE, HALL, UID, ROOM];
     const INPUTS: u32 = 500_000;
 
     fn any(random: &mut Random) -> Pair {
@@ -37,8 +38,8 @@ impl Call for FirstLink {
         Pair::long_edges().flat_map(with_each_b)
     }
 
-    fn rooms(_: &Pair, random: &mut Random) -> Room<u32> {
-        Room::filled(random, VALUES)
+    fn rooms(at: &Pair, random: &mut Random) -> Room<u32> {
+        at.room(random, VALUES, HALL_ROOM)
     }
 
     fn cases() -> Vec<Case<Pair>> {
@@ -50,16 +51,16 @@ impl Call for FirstLink {
     }
 
     fn rattle(at: &Pair, room: &mut Room<u32>) -> u32 {
-        if let [level, near, far] = room.lent() {
-            *level = rattle::first_link(at.hall, at.x, at.y, near, far);
-        }
-        NONE
+        rattle::first_link(at.hall, at.x, at.y, room.lent())
     }
 
     fn peer(at: &Pair, room: &mut Room<u32>) -> u32 {
         let link = first_link(at.hall, at.x, at.y);
-        let (near, far, level) = link.unwrap_or_default();
-        told(NONE, &[level, near, far], room.lent())
+        told(
+            link.refusal,
+            &[link.level, link.near, link.far],
+            room.lent(),
+        )
     }
 }
 
