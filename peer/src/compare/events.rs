@@ -31,6 +31,8 @@ pub enum Event {
     Arrived { k: u32, level: u32 },
     /// The journey crossed the most links and ended so.
     Longest(u32),
+    /// The call returned a number, and the first of its two rooms, the second or both were short.
+    Short { number: u32, short: [bool; 2] },
 }
 
 /// What every comparison of steps has to meet.
@@ -90,6 +92,14 @@ impl Display for Event {
             }
             Event::Longest(ending) => {
                 write!(f, "{} after {MOST_LINKS} links", ending_words(ending))
+            }
+            Event::Short { number, short } => {
+                let rooms = match short {
+                    [true, true] => "both rooms",
+                    [true, false] => "first room",
+                    _ => "second room",
+                };
+                write!(f, "{rooms} short, {number}")
             }
         }
     }

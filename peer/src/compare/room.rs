@@ -75,6 +75,11 @@ impl<E: Element> Room<E> {
         Room::filled(random, length)
     }
 
+    /// The elements that are lent.
+    pub fn length(&self) -> usize {
+        self.elements.len() - 2 * MARGIN
+    }
+
     /// What is lent.
     #[inline]
     pub fn lent(&mut self) -> &mut [E] {

@@ -9,6 +9,7 @@ use super::HALL_ROOM;
 use crate::compare::call::Call;
 use crate::compare::cases::{by_share, Case};
 use crate::compare::chains::Chain;
+use crate::compare::events::{Event, Met};
 use crate::compare::inputs::{any_hall, any_uid, around, edge_halls, servers, sizes};
 use crate::compare::room::{told, Room};
 use crate::compare::tables::{any_hall_table, sound_hall_table, Table};
@@ -40,6 +41,21 @@ const CHAIN_HALLS: [(u32, u32); 10] = [
 /// The chains drawn at random are of so many of these halls, the first and least ones.
 const LIGHT_CHAINS: u32 = 6;
 
+/// The first room short, the second, and both: on sound input, and beside each other refusal.
+const SHORT: &[Event] = &[
+    short(ROOM, [true, false]),
+    short(ROOM, [false, true]),
+    short(ROOM, [true, true]),
+    short(HALL, [true, true]),
+    short(LENGTH, [true, false]),
+    short(LENGTH, [false, true]),
+    short(LENGTH, [true, true]),
+    short(UID, [true, false]),
+    short(UID, [false, true]),
+    short(UID, [true, true]),
+    short(SCOPE, [false, true]),
+];
+
 /// The call `calls_broadcast`.
 pub struct Broadcast;
 
@@ -58,6 +74,7 @@ impl Call for Broadcast {
 
     const NAME: &'static str = "broadcast";
     const NUMBERS: &'static [u32] = &[NONE, HALL, UID, LENGTH, ROOM, SCOPE];
+    const EVENTS: &'static [Event] = SHORT;
     const INPUTS: u32 = 200_000;
     const MEASURED: usize = 4;
 
@@ -85,6 +102,14 @@ impl Call for Broadcast {
         ends.chain(halls.map(move |(n, k)| chain(&mut random, n, k)))
     }
 
+    fn count(input: &Input, number: u32, (rounds, room): &Self::Rooms, met: &mut Met) {
+        let needed = servers_of(input.hall, input.scope).unwrap_or(SUPPOSED_SERVERS);
+        let short = [rounds.length() < needed, room.length() < VALUES];
+        if short != [false; 2] {
+            met.add(Event::Short { number, short });
+        }
+    }
+
     fn rooms(input: &Input, random: &mut Random) -> Self::Rooms {
         let needed = servers_of(input.hall, input.scope).unwrap_or(SUPPOSED_SERVERS);
         let rounds = Room::any(random, needed, needed + needed / 8 + 2);
@@ -105,9 +130,18 @@ impl Call for Broadcast {
     }
 
     fn peer(at: &Input, (rounds, room): &mut Self::Rooms) -> u32 {
-        let answer = broadcast::broadcast(at.hall, at.source, at.scope, &at.table, rounds.lent());
+        let rounds = match room.lent().len() {
+            VALUES.. => rounds.lent(),
+            _ => &mut [],
+        };
+        let answer = broadcast::broadcast(at.hall, at.source, at.scope, &at.table, rounds);
         told(answer.refusal, &[answer.reached, answer.last], room.lent())
     }
+}
+
+/// The event of a call with one of its rooms or both short that returned a number.
+const fn short(number: u32, short: [bool; 2]) -> Event {
+    Event::Short { number, short }
 }
 
 /// The servers of a scope of a sound hall.
@@ -170,5 +204,32 @@ fn sound(random: &mut Random, hall: Hall, not_up: u32, scope: u32) -> Input {
         table,
         source,
         scope,
+    }
+}
+
+#[cfg(test)]
+mod tests {
+    use super::*;
+
+    /// The number that the peer's side returns with rooms of these lengths, and whether it left both as lent.
+    fn lent(source: u32, rounds: usize, counts: usize) -> (u32, bool) {
+        let input = Input {
+            hall: Hall { n: 4, k: 1, b: 0 },
+            table: Table::Own(vec![1; 40]),
+            source,
+            scope: 1,
+        };
+        let lent = (Room::new(rounds), Room::new(counts));
+        let mut rooms = lent.clone();
+        (Broadcast::peer(&input, &mut rooms), rooms == lent)
+    }
+
+    #[test]
+    fn a_short_room_of_either_kind_leaves_both_as_lent() {
+        assert_eq!(lent(0, 20, 2), (NONE, false));
+        for (rounds, counts) in [(19, 2), (20, 1), (20, 0), (19, 1), (0, 0)] {
+            assert_eq!(lent(0, rounds, counts), (ROOM, true));
+            assert_eq!(lent(20, rounds, counts), (UID, true));
+        }
     }
 }
