@@ -230,9 +230,6 @@ fn line_calls_answer_any_numbers() {
         report::hall_line(&mut text, Hall { n, k, b });
         report::refused_line(&mut text, n, k);
         report::packet_line(&mut text, n, k, ending, links, b, &uids);
-        let end = number(&mut random) as usize;
-        let part = report::written_part(&text, end);
-        assert_eq!(part, &text[..end.min(text.len())]);
         let text = String::from_utf8(text).unwrap();
         assert_eq!(text.lines().count(), 3);
         assert!(text.ends_with('\n') && !text.contains(" \n"));

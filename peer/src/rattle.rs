@@ -362,12 +362,14 @@ mod foreign {
             room: *mut u8,
             length: usize,
         ) -> usize;
-        pub fn calls_written_part(
-            text: *const u8,
+        pub fn calls_trace_piece(
+            sheet: *const u8,
             bytes: usize,
-            end: usize,
+            from: u32,
             room: *mut u8,
             length: usize,
+            next: *mut u32,
+            end: *mut usize,
         ) -> u32;
     }
 }
@@ -827,9 +829,16 @@ pub fn packet_line_end(told: [u32; 5], uids: &[u32], at: usize, room: &mut [u8])
     }
 }
 
-/// The first bytes of a text, up to an end.
+/// The lines of a sheet's trace from one on, as many as the room has place for; the first line behind them and the place behind the text.
 #[inline]
-pub fn written_part(text: &[u8], end: usize, room: &mut [u8]) -> u32 {
+pub fn trace_piece(
+    sheet: &[u8],
+    from: u32,
+    room: &mut [u8],
+    next: &mut u32,
+    end: &mut usize,
+) -> u32 {
     let (start, length) = (room.as_mut_ptr(), room.len());
-    unsafe { foreign::calls_written_part(text.as_ptr(), text.len(), end, start, length) }
+    let (first, bytes) = (sheet.as_ptr(), sheet.len());
+    unsafe { foreign::calls_trace_piece(first, bytes, from, start, length, next, end) }
 }

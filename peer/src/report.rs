@@ -2,10 +2,13 @@
 
 use crate::forward::{self, Packet};
 use crate::hall::Hall;
+use crate::refusal;
 use crate::sheet::{self, Fault, Parts, SheetPacket, PACKET_BYTES};
 
 /// The room set aside for each packet's line.
 const LINE_ROOM: usize = 64;
+/// The lines of a trace besides those of its packets: the first and the last.
+const AROUND_PACKETS: u32 = 2;
 /// The most digits of a number.
 const DIGITS: usize = 10;
 /// The most uids that a packet's line tells: those of the longest journey.
@@ -27,6 +30,11 @@ pub fn hall_line(text: &mut Vec<u8>, h: Hall) {
 /// Adds the line of a refused sheet.
 pub fn refused_line(text: &mut Vec<u8>, number: u32, place: u32) {
     put_line(text, b"REFUSED", &[number, place]);
+}
+
+/// Adds the last line of a trace of so many packets.
+pub fn end_line(text: &mut Vec<u8>, packets: u32) {
+    put_line(text, b"END", &[packets]);
 }
 
 /// Adds the line of a packet, with the first links + 1 of the uids, at most `MOST_UIDS`, or all that there are.
@@ -52,9 +60,63 @@ pub fn packet_line(
     text.push(b'\n');
 }
 
-/// The first `end` bytes of the room; the whole room where it has fewer.
-pub fn written_part(room: &[u8], end: usize) -> &[u8] {
-    room.get(..end).unwrap_or(room)
+/// A piece of a trace: the first line behind it, and the place behind its text.
+#[derive(Debug, Clone, Copy, PartialEq, Eq)]
+pub struct Piece {
+    pub refusal: u32,
+    pub next: u32,
+    pub end: usize,
+}
+
+/// Writes as many whole lines of a sheet's trace, from one on, as fit from the room's start.
+pub fn trace_piece(sheet: &[u8], from: u32, room: &mut [u8]) -> Piece {
+    let refused = |refusal| Piece {
+        refusal,
+        next: 0,
+        end: 0,
+    };
+    let read = sheet::parse(sheet);
+    let lines = match &read {
+        Ok(parts) => parts.packets.len() as u32 + AROUND_PACKETS,
+        Err(_) => 1,
+    };
+    if from >= lines {
+        return refused(refusal::RANGE);
+    }
+    let (mut line, mut next, mut end) = (Vec::new(), from, 0);
+    while next < lines {
+        line.clear();
+        put_numbered(&mut line, &read, next);
+        let Some(place) = room.get_mut(end..end + line.len()) else {
+            break;
+        };
+        place.copy_from_slice(&line);
+        next += 1;
+        end += line.len();
+    }
+    if next == from {
+        return refused(refusal::ROOM);
+    }
+    Piece {
+        refusal: refusal::NONE,
+        next,
+        end,
+    }
+}
+
+/// Adds a line of a trace by its number, from 0 on.
+fn put_numbered(text: &mut Vec<u8>, read: &Result<Parts, Fault>, number: u32) {
+    let parts = match read {
+        Ok(parts) => parts,
+        Err(fault) => return refused_line(text, fault.refusal, fault.place),
+    };
+    let Some(i) = number.checked_sub(1) else {
+        return hall_line(text, parts.hall);
+    };
+    match parts.packets.get(i as usize) {
+        Some(bytes) => put_journey(text, parts, bytes),
+        None => end_line(text, parts.packets.len() as u32),
+    }
 }
 
 /// The text of a refused sheet.
@@ -71,7 +133,7 @@ fn report(parts: &Parts) -> Vec<u8> {
     for bytes in parts.packets {
         put_journey(&mut text, parts, bytes);
     }
-    put_line(&mut text, b"END", &[parts.packets.len() as u32]);
+    end_line(&mut text, parts.packets.len() as u32);
     text
 }
 
@@ -285,14 +347,71 @@ mod tests {
         }
     }
 
-    #[test]
-    fn the_written_part_is_the_start_of_the_room_or_all_of_it() {
-        let room = [1, 2, 3];
-        for end in 0..=3 {
-            assert_eq!(written_part(&room, end), &room[..end]);
+    /// The sample sheet with three packets.
+    fn three() -> Vec<u8> {
+        let packets = [[0, 19, 5, 15], [0, 1, 5, 0], [3, 3, 5, 1]];
+        sheet([4, 1, 0], &codes(2), &packets)
+    }
+
+    /// The pieces of a trace in rooms of a length, joined.
+    fn joined(sheet: &[u8], length: usize) -> Vec<u8> {
+        let mut text = Vec::new();
+        let mut from = 0;
+        loop {
+            let mut room = vec![9; length];
+            let piece = trace_piece(sheet, from, &mut room);
+            if piece.refusal != 0 {
+                assert_eq!((piece.refusal, piece.next, piece.end), (3, 0, 0));
+                assert_eq!(room, vec![9; length]);
+                return text;
+            }
+            assert!(room[piece.end..].iter().all(|&byte| byte == 9));
+            text.extend_from_slice(&room[..piece.end]);
+            from = piece.next;
         }
-        assert_eq!(written_part(&room, 4), room);
-        assert_eq!(written_part(&room, usize::MAX), room);
-        assert_eq!(written_part(&[], 1), []);
+    }
+
+    #[test]
+    fn the_pieces_of_a_trace_join_to_the_whole_in_every_room_of_its_longest_line() {
+        let sheets = [three(), sheet([2, 0, 0], &[1, 1], &[]), Vec::new()];
+        for sheet in sheets {
+            let whole = trace(&sheet);
+            let lines = whole.split_inclusive(|&byte| byte == b'\n');
+            let longest = lines.map(<[u8]>::len).max().unwrap();
+            for length in longest..whole.len() + 2 {
+                assert_eq!(joined(&sheet, length), whole);
+            }
+        }
+    }
+
+    #[test]
+    fn a_piece_has_as_many_whole_lines_as_fit() {
+        let line_ends = [11, 44, 62, 84, 90];
+        let mut room = [9; 90];
+        for length in 0..=90 {
+            let piece = trace_piece(&three(), 0, &mut room[..length]);
+            let lines = line_ends.iter().filter(|&&end| end <= length).count();
+            let expected = match lines {
+                0 => (6, 0, 0),
+                _ => (0, lines as u32, line_ends[lines - 1]),
+            };
+            assert_eq!((piece.refusal, piece.next, piece.end), expected);
+        }
+        let last = trace_piece(&three(), 4, &mut room);
+        assert_eq!((last.refusal, last.next, last.end), (0, 5, 6));
+        assert_eq!(&room[..6], b"END 3\n");
+    }
+
+    #[test]
+    fn a_line_that_is_not_there_gets_3_before_6_and_the_room_stays() {
+        let mut room = [9; 4];
+        for (bytes, lines) in [(three(), 5), (Vec::new(), 1)] {
+            for from in [lines, lines + 1, u32::MAX] {
+                assert_eq!(trace_piece(&bytes, from, &mut room).refusal, 3);
+                assert_eq!(trace_piece(&bytes, from, &mut []).refusal, 3);
+            }
+            assert_eq!(trace_piece(&bytes, lines - 1, &mut room).refusal, 6);
+        }
+        assert_eq!(room, [9; 4]);
     }
 }

@@ -33,6 +33,8 @@ pub enum Event {
     Longest(u32),
     /// The call returned a number, and the first of its two rooms, the second or both were short.
     Short { number: u32, short: [bool; 2] },
+    /// The call returned a number, and its room had so many bytes more than what was to be written, or fewer.
+    Spare { number: u32, bytes: isize },
 }
 
 /// What every comparison of steps has to meet.
@@ -101,6 +103,7 @@ impl Display for Event {
                 };
                 write!(f, "{rooms} short, {number}")
             }
+            Event::Spare { number, bytes } => write!(f, "spare bytes {bytes}, {number}"),
         }
     }
 }

@@ -3,20 +3,46 @@
 use std::fmt::{self, Debug, Formatter};
 
 use peer::random::Random;
-use peer::refusal;
+use peer::refusal::{NONE, ROOM};
 
+use super::events::{Event, Met};
 use super::room::Room;
 
-/// The room that any line wants from its place on.
-pub const LINE_ROOM: usize = 2_877;
+/// The bytes of the longest line.
+pub const LONGEST_LINE: usize = 2_877;
 /// A line is written before this place, unless it is refused.
 const PLACES: u32 = 4_000;
 
-/// A place to write a line at, and the length of the room there.
+/// What every comparison of a call that writes a line has to meet: a room that is a byte too short, the exact one, and one byte more.
+pub const FITS: &[Event] = &[
+    Event::Spare {
+        number: ROOM,
+        bytes: -1,
+    },
+    Event::Spare {
+        number: NONE,
+        bytes: 0,
+    },
+    Event::Spare {
+        number: NONE,
+        bytes: 1,
+    },
+];
+
+/// A place to write a line at, and the room there.
 #[derive(Debug, Clone, Copy)]
 pub struct Spot {
     pub at: usize,
-    pub length: usize,
+    space: Space,
+}
+
+/// How long the room of a line is.
+#[derive(Debug, Clone, Copy)]
+enum Space {
+    /// Up to the line's end, and so many bytes more or fewer.
+    Line(isize),
+    /// So many bytes, wherever the line ends.
+    Whole(usize),
 }
 
 /// The rooms of the two calls that write one line: the one that returns its refusal and the one that returns its end.
@@ -26,87 +52,102 @@ pub struct LineRooms {
     pub end: Room<u8>,
     /// The end that was returned.
     pub told: usize,
+    /// The bytes that the rooms have behind the line, or lack, where it is not far behind them.
+    spare: Option<isize>,
     /// The peer's line before it is told; empty behind that.
     line: Vec<u8>,
 }
 
-/// Text that lines are added to.
+/// Text that is made of pieces.
 #[derive(Clone, Default)]
 pub struct Text {
-    room: Vec<u8>,
-    end: usize,
+    bytes: Vec<u8>,
+    /// The length of the room that the pieces are written to.
+    room: usize,
 }
 
 impl Spot {
     /// The start of room for one line.
     pub const START: Spot = Spot {
         at: 0,
-        length: LINE_ROOM,
+        space: Space::Line(0),
     };
 
-    /// Any place, with exactly the room for a line behind it, a byte less, or more or less by any number; or a place behind the room.
+    /// Any place, with exactly the room for a line behind it, a byte more or less, or more or less by any number; or one behind the room.
     pub fn any(random: &mut Random) -> Spot {
+        if random.once_in(32) {
+            let at = usize::MAX - random.below(2 * LONGEST_LINE as u32) as usize;
+            let space = Space::Whole(random.below(LONGEST_LINE as u32) as usize);
+            return Spot { at, space };
+        }
         let at = match random.below(4) {
             0 => 0,
             1 => random.below(100) as usize,
             _ => random.below(PLACES) as usize,
         };
-        let length = match random.below(8) {
-            0 => at + LINE_ROOM - 1,
-            1 => at + LINE_ROOM + random.below(100) as usize,
-            2 => at + random.below(LINE_ROOM as u32) as usize,
-            3 => random.below(at as u32 + 1) as usize,
-            _ => at + LINE_ROOM,
+        let space = match random.below(8) {
+            0 | 1 => Space::Line(-1),
+            2 => Space::Line(1),
+            3 => Space::Line(random.below(100) as isize),
+            4 => Space::Line(-(random.below(100) as isize)),
+            5 => Space::Whole(random.below(at as u32 + 1) as usize),
+            _ => Space::Line(0),
         };
-        if random.once_in(32) {
-            let at = usize::MAX - random.below(2 * LINE_ROOM as u32) as usize;
-            return Spot { at, length };
-        }
-        Spot { at, length }
+        Spot { at, space }
     }
 
     /// The places that every comparison tries.
     pub fn edges() -> impl Iterator<Item = Spot> {
-        let spot = |at, length| Spot { at, length };
-        let just = [0, 1, 50, LINE_ROOM].into_iter().flat_map(move |at| {
-            let lengths = [
-                0,
-                at,
-                at + LINE_ROOM - 1,
-                at + LINE_ROOM,
-                at + LINE_ROOM + 1,
-            ];
-            lengths.map(|length| spot(at, length))
+        let just = [0, 1, 50, LONGEST_LINE].into_iter().flat_map(|at| {
+            let whole = [0, at].map(Space::Whole);
+            let line = [-1, 0, 1].map(Space::Line);
+            let spaces = whole.into_iter().chain(line);
+            spaces.map(move |space| Spot { at, space })
         });
         let far = [
             usize::MAX,
-            usize::MAX - LINE_ROOM,
-            usize::MAX - LINE_ROOM + 1,
+            usize::MAX - LONGEST_LINE,
+            usize::MAX - LONGEST_LINE + 1,
         ];
-        let far = far
-            .into_iter()
-            .flat_map(move |at| [0, LINE_ROOM].map(|length| spot(at, length)));
+        let far = far.into_iter().flat_map(|at| {
+            let spaces = [0, LONGEST_LINE].map(Space::Whole);
+            spaces.map(|space| Spot { at, space })
+        });
         just.chain(far)
     }
 
-    /// Rooms of the spot's length, filled at random.
-    pub fn rooms(&self, random: &mut Random) -> LineRooms {
+    /// Rooms for a line of so many bytes, filled at random.
+    pub fn rooms(&self, random: &mut Random, line: usize) -> LineRooms {
+        let end = self.at.checked_add(line);
+        let length = match self.space {
+            Space::Line(more) => end.map_or(0, |end| end.saturating_add_signed(more)),
+            Space::Whole(length) => length,
+        };
         LineRooms {
-            number: Room::filled(random, self.length),
-            end: Room::filled(random, self.length),
+            number: Room::filled(random, length),
+            end: Room::filled(random, length),
             told: random.word() as usize,
+            spare: end.and_then(|end| length.checked_signed_diff(end)),
             line: Vec::new(),
         }
     }
 }
 
 impl LineRooms {
+    /// Counts a room that just held the line or just did not, by the number returned.
+    pub fn count(&self, number: u32, met: &mut Met) {
+        if let (NONE | ROOM, Some(bytes @ -1..=1)) = (number, self.spare) {
+            met.add(Event::Spare { number, bytes });
+        }
+    }
+
     /// Rooms for any line at place 0.
     pub fn ample() -> LineRooms {
         LineRooms {
-            number: Room::new(LINE_ROOM),
-            end: Room::new(LINE_ROOM),
+            number: Room::new(LONGEST_LINE),
+            end: Room::new(LONGEST_LINE),
             told: 0,
+            spare: None,
             line: Vec::new(),
         }
     }
@@ -123,62 +164,71 @@ impl LineRooms {
     /// out by itself.
     pub fn tell_added(&mut self, at: usize, add: impl Fn(&mut Vec<u8>)) -> u32 {
         add(&mut self.line);
-        let number = put(refusal::NONE, &self.line, at, self.number.lent());
+        let number = put(NONE, &self.line, at, self.number.lent());
         self.line.clear();
         add(&mut self.line);
-        let again = put(refusal::NONE, &self.line, at, self.end.lent());
+        let again = put(NONE, &self.line, at, self.end.lent());
         self.told = end_of(again, &self.line, at);
         self.line.clear();
         number
     }
 }
 
+/// The bytes of a line that a function adds to a text.
+pub fn line_length(add: impl Fn(&mut Vec<u8>)) -> usize {
+    let mut line = Vec::new();
+    add(&mut line);
+    line.len()
+}
+
 /// The place behind a line that was written at a place; 0 where it is refused.
 fn end_of(refusal: u32, line: &[u8], at: usize) -> usize {
     match refusal {
-        refusal::NONE => at + line.len(),
+        NONE => at + line.len(),
         _ => 0,
     }
 }
 
-/// Writes a line, as far as the room goes, at a place where there is no refusal and room for any line; returns the refusal.
+/// Writes a line at a place where there is no refusal and room for it; returns the refusal.
 fn put(refusal: u32, line: &[u8], at: usize, room: &mut [u8]) -> u32 {
-    if refusal != refusal::NONE {
+    if refusal != NONE {
         return refusal;
     }
     let behind = room.get_mut(at..).unwrap_or(&mut []);
-    if behind.len() < LINE_ROOM {
-        return refusal::ROOM;
-    }
-    let written = line.len().min(behind.len());
-    behind[..written].copy_from_slice(&line[..written]);
-    refusal::NONE
+    let Some(written) = behind.get_mut(..line.len()) else {
+        return ROOM;
+    };
+    written.copy_from_slice(line);
+    NONE
 }
 
 impl Text {
     /// The text of bytes.
     pub fn of(bytes: Vec<u8>) -> Text {
-        let end = bytes.len();
-        Text { room: bytes, end }
+        Text { bytes, room: 0 }
     }
 
-    /// The text without its lines.
-    pub fn clear(&mut self) {
-        self.end = 0;
+    /// No text, to be made of pieces in a room of a length.
+    pub fn in_pieces(room: usize) -> Text {
+        let bytes = Vec::new();
+        Text { bytes, room }
     }
 
-    /// Adds a line by a call that is given a place and room, and returns the place behind the line.
-    pub fn add(&mut self, line: impl FnOnce(usize, &mut [u8]) -> usize) {
-        let wanted = self.end + LINE_ROOM;
-        if self.room.len() < wanted {
-            self.room.resize(2 * wanted, 0);
+    /// Joins the pieces that a call writes to the room from each line on, until it is refused.
+    pub fn join(&mut self, piece: impl Fn(u32, &mut [u8], &mut u32, &mut usize) -> u32) {
+        self.bytes.clear();
+        let mut room = vec![0; self.room];
+        let (mut from, mut next, mut end) = (0, 0, 0);
+        while piece(from, &mut room, &mut next, &mut end) == NONE && next > from {
+            self.bytes
+                .extend_from_slice(room.get(..end).unwrap_or(&room));
+            from = next;
         }
-        self.end = line(self.end, &mut self.room);
     }
 
     /// The bytes of the text.
     pub fn bytes(&self) -> &[u8] {
-        self.room.get(..self.end).unwrap_or(&self.room)
+        &self.bytes
     }
 }
 
@@ -202,64 +252,70 @@ mod tests {
 
     #[test]
     fn a_line_is_written_at_its_place_and_the_rest_stays() {
-        let mut room = vec![9; LINE_ROOM + 2];
+        let mut room = [9; 7];
         assert_eq!(put(0, b"END", 2, &mut room), 0);
-        assert_eq!(room[..6], [9, 9, b'E', b'N', b'D', 9]);
+        assert_eq!(room, [9, 9, b'E', b'N', b'D', 9, 9]);
+        assert_eq!(put(0, b"END", 4, &mut room), 0);
+        assert_eq!(room[4..], *b"END");
     }
 
     #[test]
     fn a_refused_line_and_a_byte_too_few_leave_the_room_as_lent() {
-        let mut room = vec![9; LINE_ROOM + 1];
+        let mut room = [9; 4];
         assert_eq!(put(5, b"END", 0, &mut room), 5);
-        assert_eq!(put(0, b"END", 2, &mut room), refusal::ROOM);
-        assert_eq!(put(0, b"END", usize::MAX, &mut room), refusal::ROOM);
-        assert!(room.iter().all(|&byte| byte == 9));
-    }
-
-    #[test]
-    fn a_line_longer_than_any_is_written_as_far_as_the_room_goes() {
-        let mut room = vec![9; LINE_ROOM];
-        assert_eq!(put(0, &[7; LINE_ROOM + 1], 0, &mut room), 0);
-        assert!(room.iter().all(|&byte| byte == 7));
+        for at in [2, 3, 4, 5, usize::MAX] {
+            assert_eq!(put(0, b"END", at, &mut room), ROOM);
+        }
+        assert_eq!(room, [9; 4]);
     }
 
     #[test]
     fn a_line_that_is_added_is_told_as_one_that_is_given() {
         let mut random = Random::new(2);
         for spot in Spot::edges() {
-            let mut given = spot.rooms(&mut random);
+            let mut given = spot.rooms(&mut random, 6);
             let mut added = given.clone();
-            let number = given.tell(refusal::NONE, b"END 7\n", spot.at);
+            let number = given.tell(NONE, b"END 7\n", spot.at);
             let again = added.tell_added(spot.at, |text| text.extend_from_slice(b"END 7\n"));
             assert_eq!((number, given), (again, added));
         }
     }
 
     #[test]
-    fn a_text_is_its_lines_one_behind_the_other() {
-        let mut text = Text::default();
-        for line in [b"ab\n", b"cd\n"] {
-            text.add(|at, room| {
-                room[at..at + 3].copy_from_slice(line);
-                at + 3
-            });
-        }
-        assert_eq!(text, Text::of(b"ab\ncd\n".to_vec()));
-        text.clear();
-        assert_eq!(text, Text::default());
+    fn a_text_is_its_pieces_one_behind_the_other() {
+        let pieces: [&[u8]; 3] = [b"ab\n", b"cd\nef\n", b"g\n"];
+        let mut text = Text::in_pieces(6);
+        text.join(|from, room, next, end| {
+            let Some(piece) = pieces.get(from as usize) else {
+                return 3;
+            };
+            room[..piece.len()].copy_from_slice(piece);
+            (*next, *end) = (from + 1, piece.len());
+            0
+        });
+        assert_eq!(text, Text::of(b"ab\ncd\nef\ng\n".to_vec()));
     }
 
     #[test]
-    fn spots_meet_the_exact_room_and_a_byte_less() {
+    fn a_call_that_does_not_go_on_ends_the_text() {
+        let mut text = Text::in_pieces(1);
+        text.join(|_, _, next, end| {
+            (*next, *end) = (1, 1);
+            0
+        });
+        assert_eq!(text, Text::of(vec![0]));
+    }
+
+    #[test]
+    fn spots_meet_the_exact_room_a_byte_less_and_one_more() {
         let mut random = Random::new(1);
-        let spots: Vec<Spot> = (0..1000).map(|_| Spot::any(&mut random)).collect();
-        let exact = |missing| {
-            let wanted = move |spot: &Spot| spot.at.checked_add(LINE_ROOM - missing);
-            spots
-                .iter()
-                .filter(|spot| wanted(spot) == Some(spot.length))
-                .count()
-        };
-        assert!(exact(0) > 200 && exact(1) > 50);
+        let mut met = Met::default();
+        for _ in 0..1000 {
+            let mut rooms = Spot::any(&mut random).rooms(&mut random, 6);
+            let spot = Spot::any(&mut random);
+            rooms.spare = spot.rooms(&mut random, 6).spare;
+            rooms.count(if rooms.spare < Some(0) { ROOM } else { NONE }, &mut met);
+        }
+        assert!(met.unmet(FITS).is_empty());
     }
 }

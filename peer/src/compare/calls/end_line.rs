@@ -2,9 +2,11 @@
 
 use peer::random::Random;
 use peer::refusal::{NONE, ROOM};
+use peer::report;
 
 use crate::compare::call::Call;
-use crate::compare::texts::{LineRooms, Spot};
+use crate::compare::events::{Event, Met};
+use crate::compare::texts::{line_length, LineRooms, Spot, FITS};
 use crate::rattle;
 
 /// The random lines of a short comparison of each call that writes one from plain numbers.
@@ -26,6 +28,7 @@ impl Call for EndLine {
 
     const NAME: &'static str = "end line";
     const NUMBERS: &'static [u32] = &[NONE, ROOM];
+    const EVENTS: &'static [Event] = FITS;
     const INPUTS: u32 = LINES;
 
     fn any(random: &mut Random) -> Input {
@@ -41,8 +44,13 @@ impl Call for EndLine {
         numbers.flat_map(|packets| Spot::edges().map(move |spot| Input { packets, spot }))
     }
 
+    fn count(_: &Input, number: u32, rooms: &LineRooms, met: &mut Met) {
+        rooms.count(number, met);
+    }
+
     fn rooms(input: &Input, random: &mut Random) -> LineRooms {
-        input.spot.rooms(random)
+        let line = line_length(|text| report::end_line(text, input.packets));
+        input.spot.rooms(random, line)
     }
 
     fn ample_rooms() -> LineRooms {
@@ -56,7 +64,6 @@ impl Call for EndLine {
     }
 
     fn peer(input: &Input, rooms: &mut LineRooms) -> u32 {
-        let line = format!("END {}\n", input.packets);
-        rooms.tell(NONE, line.as_bytes(), input.spot.at)
+        rooms.tell_added(input.spot.at, |text| report::end_line(text, input.packets))
     }
 }

@@ -7,8 +7,9 @@ use peer::report;
 
 use super::end_line::LINES;
 use crate::compare::call::Call;
+use crate::compare::events::{Event, Met};
 use crate::compare::numbers::{any_numbers_hall, edge_numbers_halls};
-use crate::compare::texts::{LineRooms, Spot};
+use crate::compare::texts::{line_length, LineRooms, Spot, FITS};
 use crate::rattle;
 
 /// The calls `calls_hall_line` and `calls_hall_line_end`.
@@ -27,6 +28,7 @@ impl Call for HallLine {
 
     const NAME: &'static str = "hall line";
     const NUMBERS: &'static [u32] = &[NONE, ROOM];
+    const EVENTS: &'static [Event] = FITS;
     const INPUTS: u32 = LINES;
 
     fn any(random: &mut Random) -> Input {
@@ -42,8 +44,13 @@ impl Call for HallLine {
         inputs.map(|(hall, spot)| Input { hall, spot })
     }
 
+    fn count(_: &Input, number: u32, rooms: &LineRooms, met: &mut Met) {
+        rooms.count(number, met);
+    }
+
     fn rooms(input: &Input, random: &mut Random) -> LineRooms {
-        input.spot.rooms(random)
+        let line = line_length(|text| report::hall_line(text, input.hall));
+        input.spot.rooms(random, line)
     }
 
     fn ample_rooms() -> LineRooms {

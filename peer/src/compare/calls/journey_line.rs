@@ -7,8 +7,9 @@ use peer::{report, sheet};
 use super::sheet::SHEETS;
 use super::sheet_packet::Picked;
 use crate::compare::call::Call;
+use crate::compare::events::{Event, Met};
 use crate::compare::sheets::alone;
-use crate::compare::texts::{LineRooms, Spot};
+use crate::compare::texts::{LineRooms, Spot, FITS};
 use crate::rattle;
 
 /// The calls `calls_journey_line` and `calls_journey_line_end`.
@@ -27,6 +28,7 @@ impl Call for JourneyLine {
 
     const NAME: &'static str = "journey line";
     const NUMBERS: &'static [u32] = &[NONE, HALL, UID, RANGE, LENGTH, CODE, ROOM, FIELD, SHEET];
+    const EVENTS: &'static [Event] = FITS;
     const INPUTS: u32 = SHEETS;
 
     fn any(random: &mut Random) -> Input {
@@ -42,8 +44,13 @@ impl Call for JourneyLine {
         inputs.map(|(picked, spot)| Input { picked, spot })
     }
 
+    fn count(_: &Input, number: u32, rooms: &LineRooms, met: &mut Met) {
+        rooms.count(number, met);
+    }
+
     fn rooms(input: &Input, random: &mut Random) -> LineRooms {
-        input.spot.rooms(random)
+        let line = journey_line(&input.picked).map_or(0, |line| line.len());
+        input.spot.rooms(random, line)
     }
 
     fn ample_rooms() -> LineRooms {
@@ -57,18 +64,21 @@ impl Call for JourneyLine {
     }
 
     fn peer(input: &Input, rooms: &mut LineRooms) -> u32 {
-        let (sheet, i) = (&input.picked.sheet, input.picked.i);
-        let refusal = sheet::packet(sheet, i).refusal;
-        if refusal != NONE {
-            return rooms.tell(refusal, &[], input.spot.at);
+        match journey_line(&input.picked) {
+            Ok(line) => rooms.tell(NONE, &line, input.spot.at),
+            Err(refusal) => rooms.tell(refusal, &[], input.spot.at),
         }
-        rooms.tell(NONE, &journey_line(sheet, i), input.spot.at)
     }
 }
 
-/// The line of a packet's journey in the peer's trace of the sheet with that packet alone.
-fn journey_line(sheet: &[u8], i: u32) -> Vec<u8> {
+/// The line of a packet's journey in the peer's trace of the sheet with that packet alone, or the refusal.
+fn journey_line(picked: &Picked) -> Result<Vec<u8>, u32> {
+    let (sheet, i) = (&picked.sheet, picked.i);
+    let refusal = sheet::packet(sheet, i).refusal;
+    if refusal != NONE {
+        return Err(refusal);
+    }
     let text = report::trace(&alone(sheet, sheet::codes(sheet).len(), i));
     let mut lines = text.split_inclusive(|&byte| byte == b'\n');
-    lines.nth(1).unwrap_or_default().to_vec()
+    Ok(lines.nth(1).unwrap_or_default().to_vec())
 }

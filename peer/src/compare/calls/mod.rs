@@ -47,11 +47,11 @@ mod sheet_place;
 mod sizes;
 mod step;
 mod trace;
+mod trace_piece;
 mod tuple;
 mod uid;
 mod word_at;
 mod write_header;
-mod written_part;
 
 use super::bench;
 use super::call::Call;
@@ -117,7 +117,7 @@ pub const CALLS: &[Listed] = &[
     listed::<hall_line::HallLine>(),
     listed::<refused_line::RefusedLine>(),
     listed::<packet_line::PacketLine>(),
-    listed::<written_part::WrittenPart>(),
+    listed::<trace_piece::TracePiece>(),
     listed::<trace::Trace<0>>(),
     listed::<trace::Trace<1>>(),
     listed::<trace::Trace<2>>(),

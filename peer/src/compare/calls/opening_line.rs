@@ -6,8 +6,9 @@ use peer::{report, sheet};
 
 use super::sheet::SHEETS;
 use crate::compare::call::Call;
+use crate::compare::events::{Event, Met};
 use crate::compare::sheets::{any_sheet, edge_sheets, without_packets, Sheet};
-use crate::compare::texts::{LineRooms, Spot};
+use crate::compare::texts::{LineRooms, Spot, FITS};
 use crate::rattle;
 
 /// The calls `calls_opening_line` and `calls_opening_line_end`.
@@ -26,6 +27,7 @@ impl Call for OpeningLine {
 
     const NAME: &'static str = "opening line";
     const NUMBERS: &'static [u32] = &[NONE, ROOM];
+    const EVENTS: &'static [Event] = FITS;
     const INPUTS: u32 = SHEETS;
 
     fn any(random: &mut Random) -> Input {
@@ -41,8 +43,13 @@ impl Call for OpeningLine {
         inputs.map(|(sheet, spot)| Input { sheet, spot })
     }
 
+    fn count(_: &Input, number: u32, rooms: &LineRooms, met: &mut Met) {
+        rooms.count(number, met);
+    }
+
     fn rooms(input: &Input, random: &mut Random) -> LineRooms {
-        input.spot.rooms(random)
+        let line = first_line(&input.sheet).len();
+        input.spot.rooms(random, line)
     }
 
     fn ample_rooms() -> LineRooms {

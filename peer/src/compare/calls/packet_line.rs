@@ -8,8 +8,9 @@ use peer::report;
 use super::end_line::LINES;
 use crate::compare::call::Call;
 use crate::compare::cases::Case;
+use crate::compare::events::{Event, Met};
 use crate::compare::numbers::any_number;
-use crate::compare::texts::{LineRooms, Spot};
+use crate::compare::texts::{line_length, LineRooms, Spot, FITS};
 use crate::rattle;
 
 /// The most uids of a line.
@@ -36,6 +37,7 @@ impl Call for PacketLine {
 
     const NAME: &'static str = "packet line";
     const NUMBERS: &'static [u32] = &[NONE, ROOM];
+    const EVENTS: &'static [Event] = FITS;
     const INPUTS: u32 = LINES;
 
     fn any(random: &mut Random) -> Input {
@@ -59,8 +61,13 @@ impl Call for PacketLine {
         inputs.map(|((told, uids), spot)| Input { told, uids, spot })
     }
 
+    fn count(_: &Input, number: u32, rooms: &LineRooms, met: &mut Met) {
+        rooms.count(number, met);
+    }
+
     fn rooms(input: &Input, random: &mut Random) -> LineRooms {
-        input.spot.rooms(random)
+        let line = line_length(|text| add(input, text));
+        input.spot.rooms(random, line)
     }
 
     fn cases() -> Vec<Case<Input>> {
@@ -83,11 +90,14 @@ impl Call for PacketLine {
     }
 
     fn peer(input: &Input, rooms: &mut LineRooms) -> u32 {
-        let [source, dst, ending, links, reroutes] = input.told;
-        rooms.tell_added(input.spot.at, |text| {
-            report::packet_line(text, source, dst, ending, links, reroutes, &input.uids);
-        })
+        rooms.tell_added(input.spot.at, |text| add(input, text))
     }
+}
+
+/// Adds the line of an input to a text.
+fn add(input: &Input, text: &mut Vec<u8>) {
+    let [source, dst, ending, links, reroutes] = input.told;
+    report::packet_line(text, source, dst, ending, links, reroutes, &input.uids);
 }
 
 /// How many uids there are: few, about as many as a line can have, or any number of them.

@@ -6,8 +6,9 @@ use peer::report;
 
 use super::end_line::LINES;
 use crate::compare::call::Call;
+use crate::compare::events::{Event, Met};
 use crate::compare::numbers::{any_number, edge_numbers};
-use crate::compare::texts::{LineRooms, Spot};
+use crate::compare::texts::{line_length, LineRooms, Spot, FITS};
 use crate::rattle;
 
 /// The calls `calls_refused_line` and `calls_refused_line_end`.
@@ -27,6 +28,7 @@ impl Call for RefusedLine {
 
     const NAME: &'static str = "refused line";
     const NUMBERS: &'static [u32] = &[NONE, ROOM];
+    const EVENTS: &'static [Event] = FITS;
     const INPUTS: u32 = LINES;
 
     fn any(random: &mut Random) -> Input {
@@ -50,8 +52,13 @@ impl Call for RefusedLine {
         })
     }
 
+    fn count(_: &Input, number: u32, rooms: &LineRooms, met: &mut Met) {
+        rooms.count(number, met);
+    }
+
     fn rooms(input: &Input, random: &mut Random) -> LineRooms {
-        input.spot.rooms(random)
+        let line = line_length(|text| report::refused_line(text, input.number, input.place));
+        input.spot.rooms(random, line)
     }
 
     fn ample_rooms() -> LineRooms {

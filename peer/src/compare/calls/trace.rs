@@ -1,4 +1,4 @@
-//! The trace of a whole sheet, written line by line, a row of the table for each range of lengths.
+//! The trace of a whole sheet, joined of pieces in rooms of several lengths, a row of the table for each range of lengths of sheets.
 
 use peer::random::Random;
 use peer::refusal::{CODE, FIELD, HALL, LENGTH, NONE, SHEET, UID};
@@ -22,8 +22,13 @@ struct Row {
     inputs: u32,
 }
 
-/// The rows, by the most bytes of their sheets. Each line of a trace reads the whole sheet again, so the time grows with the square of
-/// the length, and few large sheets are drawn.
+/// The longest room that a piece is written to.
+const MOST_ROOM: u32 = 65_536;
+/// The values that reading a sheet answers.
+const SHEET_VALUES: usize = 4;
+
+/// The rows, by the most bytes of their sheets. Each piece of a trace reads the whole sheet again, so in short rooms the time grows with
+/// the square of the length, and few large sheets are drawn.
 const ROWS: [Row; 6] = [
     row("trace 100", &sheets::TINY, ALL, 12_000),
     row("trace 1000", &sheets::SMALL, ALL, 10_000),
@@ -33,7 +38,7 @@ const ROWS: [Row; 6] = [
     row("trace longer", &sheets::OVER, &[SHEET], 400),
 ];
 
-/// The calls `calls_sheet`, `calls_opening_line_end`, `calls_journey_line_end` for each packet, and `calls_end_line_end`.
+/// The call `calls_trace_piece` from each line that the one before did not write, and `calls_sheet`.
 pub struct Trace<const ROW: usize>;
 
 impl<const ROW: usize> Call for Trace<ROW> {
@@ -54,8 +59,16 @@ impl<const ROW: usize> Call for Trace<ROW> {
         class.edges()
     }
 
-    fn rooms(_: &Sheet, _: &mut Random) -> Text {
-        Text::default()
+    fn rooms(input: &Sheet, random: &mut Random) -> Text {
+        let longest = longest_line(&report::trace(input));
+        let most = MOST_ROOM - longest as u32;
+        let more = match random.below(8) {
+            0 => 0,
+            1 => 1,
+            2 => most,
+            _ => random.below(most) >> random.below(u16::BITS),
+        };
+        Text::in_pieces(longest + more as usize)
     }
 
     fn ample_rooms() -> Text {
@@ -63,24 +76,20 @@ impl<const ROW: usize> Call for Trace<ROW> {
     }
 
     fn rattle(input: &Sheet, text: &mut Text) -> u32 {
-        let mut read = [0; 4];
-        let number = rattle::sheet(input, &mut read);
-        let [_, _, _, packets] = read;
-        text.clear();
-        text.add(|at, room| rattle::opening_line_end(input, at, room));
-        for i in 0..packets {
-            text.add(|at, room| rattle::journey_line_end(input, i, at, room));
-        }
-        if number == NONE {
-            text.add(|at, room| rattle::end_line_end(packets, at, room));
-        }
-        number
+        text.join(|from, room, next, end| rattle::trace_piece(input, from, room, next, end));
+        rattle::sheet(input, &mut [0; SHEET_VALUES])
     }
 
     fn peer(input: &Sheet, text: &mut Text) -> u32 {
         *text = Text::of(report::trace(input));
         sheet::read(input).refusal
     }
+}
+
+/// The bytes of the longest line of a text.
+fn longest_line(text: &[u8]) -> usize {
+    let lines = text.split_inclusive(|&byte| byte == b'\n');
+    lines.map(<[u8]>::len).max().unwrap_or(0)
 }
 
 /// A row of the table.
