@@ -11,6 +11,7 @@ use peer::random::Random;
 use peer::sheet::{PACKET_BYTES, SHEET_ROOM};
 
 use super::inputs::{beyond, servers, sound_hall, within};
+use super::packets::Far;
 use super::tables::{codes, hall_codes, unknown_code};
 
 /// The offset of n, k and b.
@@ -27,6 +28,8 @@ const DST: usize = 4;
 const RETRY: usize = 8;
 /// The known codes, from 0 on.
 const KNOWN: u8 = 5;
+/// A known code that is not up.
+const DOWN: u8 = 2;
 /// The highest share of codes that are not up, of a hundred.
 const MOST_NOT_UP: u32 = 60;
 /// So many sheets of a hundred are damaged.
@@ -123,6 +126,21 @@ impl Deref for Sheet {
     }
 }
 
+impl Sheet {
+    /// The sheet of a journey without a proxy, with one code for all that are not up.
+    pub fn of_journey(at: &Far) -> Sheet {
+        let codes = at.table.iter();
+        let codes = codes.map(|&code| if code == UP { UP } else { DOWN });
+        let mut bytes = opening(at.hall, at.table.len());
+        bytes.extend(codes);
+        bytes.extend(1u32.to_be_bytes());
+        bytes.extend(at.uid.to_be_bytes());
+        bytes.extend(at.packet.dst.to_be_bytes());
+        bytes.extend([at.packet.retry, at.packet.ttl]);
+        Sheet(bytes)
+    }
+}
+
 impl From<Vec<u8>> for Sheet {
     fn from(bytes: Vec<u8>) -> Sheet {
         Sheet(bytes)
@@ -150,6 +168,11 @@ impl Class {
     /// The lengths of the class.
     fn lengths(&self) -> RangeInclusive<usize> {
         self.least..=self.most
+    }
+
+    /// Whether a sheet is of the class.
+    pub fn holds(&self, sheet: &Sheet) -> bool {
+        self.lengths().contains(&sheet.len())
     }
 
     /// Any sheet of the class; nearly half of them are damaged.

@@ -11,7 +11,8 @@ use peer::route::first_link;
 use super::events::MOST_LINKS;
 use super::inputs::{servers, sizes};
 use super::packets::Far;
-use super::tables::{code_not_up, hall_codes, Table};
+use super::sheets::Sheet;
+use super::tables::{code_not_up, hall_codes, light, Table};
 
 /// The halls of the trails, b = 1 in each, and how the journeys through them end. A local way through a DCell(1) passes each of its n + 1
 /// switches once, so it has 2n + 1 links at most, and as a retry of 15 allows 14 reroutes, a packet passes 16 cells where k = 2: of 223
@@ -54,6 +55,15 @@ pub fn edge_longest() -> impl Iterator<Item = Far> {
     TRAILS
         .into_iter()
         .filter_map(move |(hall, last)| longest(&mut random, hall, last))
+}
+
+/// Sheets with one packet each, which has no proxy and is cut after the most links.
+pub fn longest_sheets() -> impl Iterator<Item = Sheet> {
+    let mut random = Random::new(5);
+    let halls = TRAILS.into_iter().filter(|&(hall, _)| light(hall));
+    let cut = halls.filter(|&(_, last)| last == Last::Cut);
+    let journeys = cut.filter_map(move |(hall, last)| longest(&mut random, hall, last));
+    journeys.map(|at| Sheet::of_journey(&at))
 }
 
 /// A journey of the most links through a hall, where one of the tables that are laid has one.
@@ -252,6 +262,7 @@ fn shuffle(random: &mut Random, numbers: &mut [u32]) {
 mod tests {
     use super::*;
     use peer::forward::{journey, DROP_TTL};
+    use peer::report;
 
     #[test]
     fn journeys_of_the_most_links_are_delivered_or_cut() {
@@ -268,6 +279,20 @@ mod tests {
             (5, 3, DROP_TTL),
         ];
         assert_eq!(met, ends);
+    }
+
+    #[test]
+    fn the_sheet_of_a_journey_of_the_most_links_has_a_line_of_256_uids() {
+        let texts: Vec<Vec<u8>> = longest_sheets()
+            .map(|sheet| report::trace(&sheet))
+            .collect();
+        for text in &texts {
+            let text = String::from_utf8_lossy(text);
+            let (told, uids) = text.split_once(" : ").unwrap();
+            assert!(told.ends_with("DROP1 255 14"), "{told}");
+            assert_eq!(uids.lines().next().unwrap().split(' ').count(), 256);
+        }
+        assert_eq!(texts.len(), 1);
     }
 
     #[test]

@@ -9,6 +9,7 @@ use crate::compare::call::Call;
 use crate::compare::inputs::around;
 use crate::compare::room::{told, Room};
 use crate::compare::sheets::{any_sheet, edge_sheets, Sheet};
+use crate::compare::trails::longest_sheets;
 use crate::rattle;
 
 /// The values of the answer: source, dst, retry and TTL.
@@ -69,6 +70,7 @@ impl Picked {
 
     /// The sheets at an edge, each with the packet it has mostly.
     pub fn edges() -> impl Iterator<Item = Picked> {
-        edge_sheets().map(|sheet| Picked { sheet, i: 0 })
+        let sheets = edge_sheets().chain(longest_sheets());
+        sheets.map(|sheet| Picked { sheet, i: 0 })
     }
 }

@@ -7,6 +7,7 @@ use peer::{report, sheet};
 use crate::compare::call::Call;
 use crate::compare::sheets::{self, Class, Sheet};
 use crate::compare::texts::Text;
+use crate::compare::trails::longest_sheets;
 use crate::rattle;
 
 /// Every number that a sheet of any but the greatest lengths can be refused by, and 0.
@@ -56,7 +57,8 @@ impl<const ROW: usize> Call for Trace<ROW> {
 
     fn edges() -> impl Iterator<Item = Sheet> {
         let class: &'static Class = ROWS[ROW].class;
-        class.edges()
+        let long = longest_sheets().filter(|sheet| class.holds(sheet));
+        class.edges().chain(long)
     }
 
     fn rooms(input: &Sheet, random: &mut Random) -> Text {

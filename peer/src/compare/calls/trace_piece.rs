@@ -10,6 +10,7 @@ use crate::compare::inputs::around;
 use crate::compare::room::Room;
 use crate::compare::sheets::{any_sheet, edge_sheets, Sheet};
 use crate::compare::texts::FITS;
+use crate::compare::trails::longest_sheets;
 use crate::rattle;
 
 /// The random pieces of a short comparison.
@@ -59,6 +60,8 @@ impl Call for TracePiece {
     fn edges() -> impl Iterator<Item = Input> {
         let froms = [0, 1, 2, 3, u32::MAX].into_iter().cycle();
         let inputs = edge_sheets().zip(froms);
+        let long = longest_sheets().flat_map(|sheet| [(sheet.clone(), 0), (sheet, 1)]);
+        let inputs = inputs.chain(long);
         inputs.map(|(sheet, from)| Input { sheet, from })
     }
 
