@@ -1,6 +1,5 @@
 -- What became of a packet, as the five numbers that its line tells before the uids; and how far a piece of the trace got.
 -- Sections "The night sheet" and "Refusal numbers".
-use mathlib.Core.Bool.{Bool, true, false}
 use Prim.Native.Nat.{ℕ}
 use lib.Dec.{eqb}
 use Rattle.combine.specs.Tests.{pick}

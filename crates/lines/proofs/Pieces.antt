@@ -1,26 +1,23 @@
 -- Laws of a piece of the trace: the lines in the room so far, and what the call then answers.
 use mathlib.Core.Path.{_≡_, refl, sym, _∙_, ap}
-use mathlib.Core.Bool.{Bool, true, false}
-use mathlib.Core.List.{List, [], _∷_, _++_}
-use Prim.Native.Nat.{ℕ, zero, suc, _+_, _-_, _*_, _≤_, _<_}
+use mathlib.Core.List.{List, _++_}
+use Prim.Native.Nat.{ℕ, _+_, _-_, _≤_, _<_}
 use native.Mathlib.Omega.{arith}
-use lib.Dec.{eqb, leb, ltb}
+use lib.Dec.{leb, ltb}
 use lib.ListN.{length, take, drop, length-append}
 use lib.Seq.{take-append-seam}
-use borrow.Author.Tests.{eq-eqb, ne-eqb, lt-ltb, le-ltb, le-leb, lt-leb, leb-true, leb-false, ltb-true, ltb-false, eqb-true, eqb-false}
-use Rattle.combine.specs.Tests.{pick}
+use borrow.Author.Tests.{lt-ltb, le-ltb, le-leb, lt-leb, leb-true, leb-false, ltb-true, ltb-false}
 use Rattle.combine.proofs.Tests.{cases}
 use Rattle.hall.specs.Refusals.{refusal, bad-range, short-room}
 use Rattle.sheet.specs.declared.Sheet.{Sheet}
 use Rattle.sheet.specs.Answers.{sheetOf, packetPlace}
-use Rattle.sheet.specs.Accepted.{packetCountOf}
 use Rattle.sheet.proofs.Held.{accepted-holds, holds-accepted}
 use Rattle.report.specs.declared.Written.{Written}
 use Rattle.report.specs.Rooms.{put, roomy, writtenOf, roomOf}
 use Rattle.report.proofs.Rooms.{put-none, put-put, length-put}
 use Rattle.lines.specs.declared.Piece.{Piece}
 use Rattle.lines.specs.Traces.{lineCount, lineText, linesText, fitting, fittingText, fittingPiece, pieceRefusal, pieceOf, roomPiece}
-use Rattle.lines.proofs.Lines.{count-refused, count-accepted, lines-none, lines-more, lines-append, fitting-more, fitting-full, fitting-none, fitting-within, fitting-length}
+use Rattle.lines.proofs.Lines.{lines-none, lines-more, lines-append, fitting-more, fitting-full, fitting-none, fitting-within, fitting-length}
 
 -- an accepted sheet has few packets
 pub few-packets : (s : List ℕ) → sheetOf s .refusal ≡ 0 → sheetOf s .packets ≤ 65536
@@ -29,38 +26,47 @@ few-packets s ok =
     let a = accepted-holds s ok in
     omega (arith, ap (λ (x : Sheet). x .packets) (holds-accepted s a), a .whole, a .short)
 
+-- what a call that writes a line leaves: its answer, and the room
+abbrev pub Lined : List ℕ → ℕ → List ℕ → Written → List ℕ → Type 0
+Lined room at text w after = (w ≡ writtenOf room at text) × (after ≡ roomOf room at text)
+
 -- what is known of a line that was written, and of one that the room was short for
-module _ (room : List ℕ) (at : ℕ) (text : List ℕ) (w : Written) (last : List ℕ) (e : (w ≡ writtenOf room at text) × (last ≡ roomOf room at text)) where
-  pub written-there : w .refusal ≡ 0 → (at + length text ≤ length room) × (w .end ≡ at + length text) × (last ≡ put room at text)
+module _ (room : List ℕ) (at : ℕ) (text : List ℕ) (w : Written) (after : List ℕ) (e : Lined room at text w after) where
+  pub written-there : w .refusal ≡ 0 → (at + length text ≤ length room) × (w .end ≡ at + length text) × (after ≡ put room at text)
   unfolding roomy
   written-there z =
       cases (leb (at + length text) (length room))
       (λ q. (leb-true (at + length text) (length room) q, ap (λ (x : Written). x .end) (rw q at (e .0)), rw q at (e .1)))
       (λ q. absurd (omega (arith, z, ap (λ (x : Written). x .refusal) (rw q at (e .0)))))
 
-  pub written-short : (w .refusal ≡ 0 → ⊥) → (length room < at + length text) × (last ≡ room)
+  pub written-short : (w .refusal ≡ 0 → ⊥) → (length room < at + length text) × (after ≡ room)
   unfolding roomy
   written-short d =
       cases (leb (at + length text) (length room))
       (λ q. absurd (d (ap (λ (x : Written). x .refusal) (rw q at (e .0)))))
       (λ q. (leb-false (at + length text) (length room) q, rw q at (e .1)))
 
+-- what writing as many lines as fit leaves
+abbrev pub Fitted : List ℕ → Sheet → List ℕ → ℕ → ℕ → Piece → List ℕ → Type 0
+Fitted s read room from left r after =
+    (r ≡ fittingPiece s read (length room) from left) × (after ≡ put room 0 (fittingText s read (length room) from left))
+
 -- some of the lines from a line on stand in the room, and those that fit are these and those that fit behind them
-pub record Underway (s : List ℕ) (read : Sheet) (first room : List ℕ) (from last next end : ℕ) : Type 0 where
+pub record Underway (s : List ℕ) (read : Sheet) (first room : List ℕ) (from lines next end : ℕ) : Type 0 where
   pub count : ℕ
   pub more : ℕ
   pub at : next ≡ from + count
-  pub left : last - from ≡ count + more
+  pub left : lines - from ≡ count + more
   pub place : end ≡ length (linesText s read from count)
   pub within : end ≤ length first
   pub text : room ≡ put first 0 (linesText s read from count)
-  pub rest : fitting s read (length first) from (last - from) ≡ count + fitting s read (length first - end) next more
+  pub rest : fitting s read (length first) from (lines - from) ≡ count + fitting s read (length first - end) next more
 
-module _ (s : List ℕ) (read : Sheet) (first : List ℕ) (from last : ℕ) where
-  pub starts : from ≤ last → Underway s read first first from last from 0
+module _ (s : List ℕ) (read : Sheet) (first : List ℕ) (from lines : ℕ) where
+  pub starts : from ≤ lines → Underway s read first first from lines from 0
   starts h = record {
     count = 0;
-    more = last - from;
+    more = lines - from;
     at = omega arith;
     left = omega arith;
     place = ap length (sym (lines-none s read from));
@@ -69,14 +75,14 @@ module _ (s : List ℕ) (read : Sheet) (first : List ℕ) (from last : ℕ) wher
     rest = let z : length first - 0 ≡ length first = omega arith in rw z (omega arith);
   }
 
-  module _ (room : List ℕ) (next end : ℕ) (u : Underway s read first room from last next end) where
+  module _ (room : List ℕ) (next end : ℕ) (u : Underway s read first room from lines next end) where
     pub kept : length room ≡ length first
     kept = ap length (u .text) ∙ length-put first 0 (linesText s read from (u .count)) (omega (arith, u .place, u .within))
 
     -- a line more
-    pub goes-on : next < last → (w : Written) (after : List ℕ)
-        → (w ≡ writtenOf room end (lineText s read next)) × (after ≡ roomOf room end (lineText s read next)) → w .refusal ≡ 0
-        → Underway s read first after from last (next + 1) (w .end)
+    pub goes-on : next < lines → (w : Written) (after : List ℕ)
+        → Lined room end (lineText s read next) w after → w .refusal ≡ 0
+        → Underway s read first after from lines (next + 1) (w .end)
     goes-on h w after e z =
         let n = written-there room end (lineText s read next) w after e z in
         let k = kept in
@@ -99,15 +105,13 @@ module _ (s : List ℕ) (read : Sheet) (first : List ℕ) (from last : ℕ) wher
         }
 
     -- the answer, where no line more is to be written or none fits
-    ends : fitting s read (length first) from (last - from) ≡ u .count
-        → (_≡_ {A = Piece} (record { refusal = 0; next = next; end = end }) (fittingPiece s read (length first) from (last - from)))
-        × (room ≡ put first 0 (fittingText s read (length first) from (last - from)))
+    ends : fitting s read (length first) from (lines - from) ≡ u .count
+        → Fitted s read first from (lines - from) (record { refusal = 0; next = next; end = end }) room
     ends e = (rw (e, u .at, u .place), rw e (u .text))
 
-    pub ends-full : next < last → (w : Written) (after : List ℕ)
-        → (w ≡ writtenOf room end (lineText s read next)) × (after ≡ roomOf room end (lineText s read next)) → (w .refusal ≡ 0 → ⊥)
-        → (_≡_ {A = Piece} (record { refusal = 0; next = next; end = end }) (fittingPiece s read (length first) from (last - from)))
-        × (after ≡ put first 0 (fittingText s read (length first) from (last - from)))
+    pub ends-full : next < lines → (w : Written) (after : List ℕ)
+        → Lined room end (lineText s read next) w after → (w .refusal ≡ 0 → ⊥)
+        → Fitted s read first from (lines - from) (record { refusal = 0; next = next; end = end }) after
     ends-full h w after e d =
         let n = written-short room end (lineText s read next) w after e d in
         let k = kept in
@@ -115,9 +119,8 @@ module _ (s : List ℕ) (read : Sheet) (first : List ℕ) (from last : ℕ) wher
         let r = ends (omega (arith, u .rest, f)) in
         (r .0, n .1 ∙ r .1)
 
-    pub ends-last : last ≤ next → from ≤ last
-        → (_≡_ {A = Piece} (record { refusal = 0; next = next; end = end }) (fittingPiece s read (length first) from (last - from)))
-        × (room ≡ put first 0 (fittingText s read (length first) from (last - from)))
+    pub ends-last : lines ≤ next → from ≤ lines
+        → Fitted s read first from (lines - from) (record { refusal = 0; next = next; end = end }) room
     ends-last h g =
         let z : u .more ≡ 0 = omega (arith, u .at, u .left) in
         ends (u .rest ∙ rw (z, fitting-none s read (length first - end) next) (omega arith))
@@ -149,26 +152,26 @@ module _ (s : List ℕ) (from : ℕ) (room : List ℕ) where
       (λ q. absurd (omega (arith, fitting-more s read (length room) from left p (leb-true (length (lineText s read from)) (length room) q))))
       (λ q. leb-false (length (lineText s read from)) (length room) q)
 
-  module _ (read : Sheet) (last : ℕ) (same : read ≡ sheetOf s) (count : last ≡ lineCount read) where
-    pub piece-range : (r : Piece) → last ≤ from → r ≡ record { refusal = bad-range; next = 0; end = 0 } → (r ≡ pieceOf s from room) × (room ≡ roomPiece s from room)
-    piece-range r h e = let n = refused-range (rw (← same, ← count) h) in rw n (e, refl)
+  module _ (read : Sheet) (lines : ℕ) (same : read ≡ sheetOf s) (counted : lines ≡ lineCount read) where
+    pub piece-range : (r : Piece) → lines ≤ from → r ≡ record { refusal = bad-range; next = 0; end = 0 } → (r ≡ pieceOf s from room) × (room ≡ roomPiece s from room)
+    piece-range r h e = let n = refused-range (rw (← same, ← counted) h) in rw n (e, refl)
 
-    module _ (r : Piece) (after : List ℕ) (h : from < last)
-        (e : (r ≡ fittingPiece s read (length room) from (last - from)) × (after ≡ put room 0 (fittingText s read (length room) from (last - from)))) where
+    module _ (r : Piece) (after : List ℕ) (h : from < lines)
+        (e : Fitted s read room from (lines - from) r after) where
       pub piece-short : r .next ≡ from → (w : Piece) → w ≡ record { refusal = short-room; next = 0; end = 0 }
           → (w ≡ pieceOf s from room) × (after ≡ roomPiece s from room)
       piece-short q w f =
-          let z : fitting s read (length room) from (last - from) ≡ 0 = omega (arith, q, ap (λ (x : Piece). x .next) (e .0)) in
-          let l = none-fits read (last - from) (omega arith) z in
-          let n = refused-room (rw (← same, ← count) h) (rw (← same) l) in
+          let z : fitting s read (length room) from (lines - from) ≡ 0 = omega (arith, q, ap (λ (x : Piece). x .next) (e .0)) in
+          let l = none-fits read (lines - from) (omega arith) z in
+          let n = refused-room (rw (← same, ← counted) h) (rw (← same) l) in
           let a : after ≡ room = e .1 ∙ rw (z, lines-none s read from) (put-none room 0) in
           rw n (f, a)
 
       pub piece-written : (r .next ≡ from → ⊥) → (r ≡ pieceOf s from room) × (after ≡ roomPiece s from room)
       piece-written d =
-          let f : 0 < fitting s read (length room) from (last - from) = omega (arith, d, ap (λ (x : Piece). x .next) (e .0)) in
-          let n = not-refused (rw (← same, ← count) h) (rw (← same) (first-fits read (last - from) f)) in
-          rw (n, ← same, ← count) e
+          let f : 0 < fitting s read (length room) from (lines - from) = omega (arith, d, ap (λ (x : Piece). x .next) (e .0)) in
+          let n = not-refused (rw (← same, ← counted) h) (rw (← same) (first-fits read (lines - from) f)) in
+          rw (n, ← same, ← counted) e
 
   -- a piece that is not refused: its first line is there, and fits
   pub asked-there : pieceOf s from room .refusal ≡ 0 → (from < lineCount (sheetOf s)) × (length (lineText s (sheetOf s) from) ≤ length room)

@@ -1,10 +1,10 @@
 -- Worked values: the pieces of the shortest trace, that of the empty sheet, which is REFUSED 10 0.
 -- Sections "The night sheet" and "Refusal numbers".
 use mathlib.Core.Path.{_≡_, refl}
-use mathlib.Core.List.{List, [], _∷_}
+use mathlib.Core.List.{[], _∷_}
 use lib.ListN.{replicate}
 use Rattle.hall.specs.Refusals.{refusal}
-use Rattle.sheet.specs.Formats.{and-then, value, read}
+use Rattle.sheet.specs.Formats.{and-then, read}
 use Rattle.sheet.specs.Sheets.{nightSheet}
 use Rattle.sheet.specs.Answers.{sheetOf}
 use Rattle.report.specs.Texts.{digitsWithin, decimal, numberWith, refusedLine}

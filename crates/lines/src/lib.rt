@@ -136,15 +136,15 @@ fn line_count(read: Sheet) -> u32
     read.packets + 2
 }
 
-// As many whole lines as fit the room, from a line on and up to the last: the first line that is not written, and the place behind the text.
-fn put_lines(room: &mut [u8], sheet: &[u8], read: Sheet, from: u32, last: u32) -> Piece
-    requires { ⌜ from ≤ last ⌝ }
-    ensures answer { λ r. ⌜ r ≡ fittingPiece (now (sheet .entry)) read (length (now (room .entry))) from (last - from) ⌝ }
-    ensures room { λ _. ⌜ now (room .exit) ≡ put (now (room .entry)) 0 (fittingText (now (sheet .entry)) read (length (now (room .entry))) from (last - from)) ⌝ }
+// As many whole lines as fit the room, from a line on, of so many that there are: the first that is not written, and the place behind the text.
+fn put_lines(room: &mut [u8], sheet: &[u8], read: Sheet, from: u32, count: u32) -> Piece
+    requires { ⌜ from ≤ count ⌝ }
+    ensures answer { λ r. ⌜ r ≡ fittingPiece (now (sheet .entry)) read (length (now (room .entry))) from (count - from) ⌝ }
+    ensures room { λ _. ⌜ now (room .exit) ≡ put (now (room .entry)) 0 (fittingText (now (sheet .entry)) read (length (now (room .entry))) from (count - from)) ⌝ }
 {
     let mut next = from;
     let mut end: usize = 0;
-    while next < last {
+    while next < count {
         let line = line_at(room, end, sheet, read, next);
         if line.refusal != 0 {
             return Piece {
@@ -180,11 +180,11 @@ pub fn trace_piece(room: &mut [u8], sheet: &[u8], from: u32) -> Piece
     ensures room { λ _. ⌜ now (room .exit) ≡ roomPiece (now (sheet .entry)) from (now (room .entry)) ⌝ }
 {
     let read = sheet::read_sheet(sheet);
-    let last = line_count(read);
-    if last <= from {
+    let count = line_count(read);
+    if count <= from {
         return refused_piece(BAD_RANGE);
     }
-    let piece = put_lines(room, sheet, read, from, last);
+    let piece = put_lines(room, sheet, read, from, count);
     if piece.next == from {
         return refused_piece(SHORT_ROOM);
     }

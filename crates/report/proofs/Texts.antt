@@ -1,12 +1,11 @@
 -- Laws of the text: a number's digits by its last, how long each part of a line is and can be, and the uids one behind the other.
 use mathlib.Core.Path.{_≡_, refl, sym, _∙_, ap}
-use mathlib.Core.Bool.{Bool, true, false}
 use mathlib.Core.List.{List, [], _∷_, _++_, append-assoc, append-nil}
 use Prim.Native.Nat.{ℕ, zero, suc, min, _+_, _*_, _/_, _%_, _-_, _≤_, _<_}
 use native.Mathlib.Numerals.{add-one}
 use native.Mathlib.Omega.{arith}
 use lib.Dec.{eqb, ltb}
-use lib.ListN.{length, take, drop, getD, length-append, length-take}
+use lib.ListN.{length, take, drop, getD, length-append}
 use lib.Seq.{take-suc, take-all, take-add}
 use borrow.Author.Tests.{ltb-true, ltb-false, lt-ltb, le-ltb, eqb-true, eqb-false, eq-eqb, ne-eqb}
 use Rattle.combine.proofs.Tests.{cases}
@@ -14,7 +13,7 @@ use Rattle.hall.specs.declared.Hall.{Hall}
 use Rattle.report.specs.declared.PacketReport.{PacketReport}
 use Rattle.report.specs.Rooms.{line-room}
 use Rattle.forward.specs.Packets.{delivered}
-use Rattle.report.specs.Texts.{digitsWithin, decimal, numberWith, endingText, word-delivered, word-drop, space, colon, newline, uidsText, packetHead, hallLine, refusedLine, endLine, packetLine}
+use Rattle.report.specs.Texts.{digitsWithin, decimal, numberWith, endingText, word-delivered, word-drop, space, newline, uidsText, packetHead, hallLine, refusedLine, endLine, packetLine}
 
 -- more digits than there are make no difference
 digits-enough : (f g v : ℕ) → v < f → v < g → digitsWithin f v ≡ digitsWithin g v

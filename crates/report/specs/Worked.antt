@@ -1,8 +1,8 @@
 -- Worked values: the three lines of the night sheet's example, the edges of a decimal number, and of a room.
 -- Sections "The night sheet" and "Refusal numbers".
 use mathlib.Core.Path.{_≡_, refl}
-use mathlib.Core.Bool.{Bool, true, false}
-use mathlib.Core.List.{List, [], _∷_, _++_}
+use mathlib.Core.Bool.{true, false}
+use mathlib.Core.List.{[], _∷_}
 use lib.ListN.{replicate}
 use Rattle.forward.specs.Packets.{delivered}
 use Rattle.report.specs.Texts.{digitsWithin, decimal, numberWith, hallLine, refusedLine, endLine, endingText, uidsText, packetHead, packetLine}

@@ -3,7 +3,6 @@ mod lengths;
 mod puts;
 
 ghost use mathlib.Core.Path.{_≡_};
-ghost use lib.ListN.{length};
 ghost use Rattle.report.specs.Texts.{hallLine, refusedLine, endLine, packetLine};
 ghost use Rattle.report.specs.Rooms.{writtenOf, roomOf};
 use crate::lengths::end_length;

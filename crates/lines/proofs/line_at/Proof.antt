@@ -1,5 +1,5 @@
 -- `lines::line_at` meets its contract: the first line, the line of a packet's journey, or the last.
-use mathlib.Core.Path.{_≡_, _∙_, ap}
+use mathlib.Core.Path.{_∙_, ap}
 use Prim.Native.Nat.{ℕ}
 use native.Mathlib.Omega.{arith}
 use Rattle.lines.specs.Traces.{lineText}

@@ -1,5 +1,5 @@
 -- `lines::put_lines` meets its contract: after each turn some of the lines stand in the room, and those that fit are these and those that fit behind them.
-use mathlib.Core.Path.{_≡_, _∙_}
+use mathlib.Core.Path.{_∙_}
 use Prim.Native.Nat.{_-_}
 use native.Mathlib.Omega.{arith}
 use Rattle.lines.proofs.Pieces.{Underway, starts, kept, goes-on, ends-full, ends-last}
@@ -8,15 +8,15 @@ use Rattle.lines.proofs.put_lines.Statement.{statement}
 use Rattle.lines.proofs.put_lines.Tie as tie
 
 abbrev Inv-loop : tie.InvT-loop
-Inv-loop room₀ sheet read from last next₀ end₀ room next end = Underway sheet read room₀ room from last next end
+Inv-loop room₀ sheet read from count next₀ end₀ room next end = Underway sheet read room₀ room from count next end
 
 abbrev μ-loop : tie.MeasureT-loop
-μ-loop room₀ sheet read from last next₀ end₀ room next end = last - next
+μ-loop room₀ sheet read from count next₀ end₀ room next end = count - next
 
 loop-holds : tie.Need-loop-holds Inv-loop μ-loop
 loop-holds c =
     let a = c .before .before .args in
-    starts (a .sheet .now) (a .read) (a .room .now) (a .from) (a .last) (c .before .before .pre)
+    starts (a .sheet .now) (a .read) (a .room .now) (a .from) (a .count) (c .before .before .pre)
 
 line-at-requires : tie.Need-line-at-requires Inv-loop μ-loop
 line-at-requires c κs = search needs
@@ -25,14 +25,14 @@ same-length : tie.Need-same-length Inv-loop μ-loop
 same-length c =
     let a = c .before .before .before .before .before .before .before .before .before .before .args in
     let l = c .before .before .before .before .before .before .before .loop in
-    c .before .before .before .before .line-at .kept .0 ∙ kept (a .sheet .now) (a .read) (a .room .now) (a .from) (a .last) (l .room) (l .next) (l .end) (l .inv)
+    c .before .before .before .before .line-at .kept .0 ∙ kept (a .sheet .now) (a .read) (a .room .now) (a .from) (a .count) (l .room) (l .next) (l .end) (l .inv)
 
 returns : tie.Need-returns Inv-loop μ-loop
 returns c =
     let a = c .before .before .before .before .before .before .before .before .before .before .args in
     let l = c .before .before .before .before .before .before .before .loop in
     let w = c .before .before .before .before .line-at in
-    ends-full (a .sheet .now) (a .read) (a .room .now) (a .from) (a .last) (l .room) (l .next) (l .end) (l .inv) (c .before .before .before .before .before .before .loop-test .taken) (w .result) (w .last .0) (w .ensures) (c .if1 .taken)
+    ends-full (a .sheet .now) (a .read) (a .room .now) (a .from) (a .count) (l .room) (l .next) (l .end) (l .inv) (c .before .before .before .before .before .before .loop-test .taken) (w .result) (w .last .0) (w .ensures) (c .if1 .taken)
 
 add-next : tie.Need-add-next Inv-loop μ-loop
 add-next c = omega arith
@@ -45,19 +45,19 @@ loop-again c =
     let a = c .before .before .before .before .before .before .before .before .before .before .args in
     let l = c .before .before .before .before .before .before .before .loop in
     let w = c .before .before .before .before .line-at in
-    goes-on (a .sheet .now) (a .read) (a .room .now) (a .from) (a .last) (l .room) (l .next) (l .end) (l .inv) (c .before .before .before .before .before .before .loop-test .taken) (w .result) (w .last .0) (w .ensures) (c .if1 .left)
+    goes-on (a .sheet .now) (a .read) (a .room .now) (a .from) (a .count) (l .room) (l .next) (l .end) (l .inv) (c .before .before .before .before .before .before .loop-test .taken) (w .result) (w .last .0) (w .ensures) (c .if1 .left)
 
 same-length-2 : tie.Need-same-length-2 Inv-loop μ-loop
 same-length-2 c =
     let a = c .before .before .before .before .args in
     let l = c .before .loop in
-    kept (a .sheet .now) (a .read) (a .room .now) (a .from) (a .last) (l .room) (l .next) (l .end) (l .inv)
+    kept (a .sheet .now) (a .read) (a .room .now) (a .from) (a .count) (l .room) (l .next) (l .end) (l .inv)
 
 returns-2 : tie.Need-returns-2 Inv-loop μ-loop
 returns-2 c =
     let a = c .before .before .before .before .args in
     let l = c .before .loop in
-    ends-last (a .sheet .now) (a .read) (a .room .now) (a .from) (a .last) (l .room) (l .next) (l .end) (l .inv) (omega (arith, c .loop-test .left)) (c .before .before .before .before .pre)
+    ends-last (a .sheet .now) (a .read) (a .room .now) (a .from) (a .count) (l .room) (l .next) (l .end) (l .inv) (omega (arith, c .loop-test .left)) (c .before .before .before .before .pre)
 
 pub put-lines-spec : {M : Type 1} → statement M
 put-lines-spec =

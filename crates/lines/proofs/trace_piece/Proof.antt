@@ -1,5 +1,5 @@
 -- `lines::trace_piece` meets its contract: refused in order, or as many whole lines as fit.
-use mathlib.Core.Path.{_≡_, sym, _∙_, ap}
+use mathlib.Core.Path.{sym, _∙_, ap}
 use native.Mathlib.Omega.{arith}
 use Rattle.sheet.specs.declared.Sheet.{Sheet}
 use Rattle.lines.proofs.Pieces.{few-packets, piece-range, piece-short, piece-written}

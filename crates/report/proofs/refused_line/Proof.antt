@@ -1,5 +1,5 @@
 -- `report::refused_line` meets its contract: each part stands behind the one before it, and the room is as long as they are together.
-use mathlib.Core.Path.{_≡_, _∙_}
+use mathlib.Core.Path.{_∙_}
 use mathlib.Core.List.{_++_}
 use Prim.Native.Nat.{_+_, _≤_}
 use native.Mathlib.Omega.{arith}

@@ -1,6 +1,6 @@
 -- `report::lengths::digits` meets its contract: the digits counted and those of what is left are always one more than all, and what is left falls.
 use mathlib.Core.Path.{_≡_, refl, ap}
-use Prim.Native.Nat.{_+_, _<_}
+use Prim.Native.Nat.{_+_}
 use native.Mathlib.Omega.{arith}
 use lib.ListN.{length}
 use Rattle.report.specs.Texts.{decimal}

@@ -1,6 +1,6 @@
 -- `report::lengths::uids_length` meets its contract: after i turns the sum is the length of the text of the first i uids, at most eleven for each.
 use mathlib.Core.Path.{_≡_, refl}
-use Prim.Native.Nat.{_+_, _*_, _-_, _≤_}
+use Prim.Native.Nat.{_*_, _-_, _≤_}
 use native.Mathlib.Omega.{arith}
 use borrow.Author.Needs.{needs}
 use lib.ListN.{length, take}

@@ -1,5 +1,5 @@
 -- `report::puts::put_ending` meets its contract: the word for a delivery, or that for a drop with its number behind it.
-use mathlib.Core.Path.{_≡_, _∙_, ap}
+use mathlib.Core.Path.{_∙_, ap}
 use native.Mathlib.Omega.{arith}
 use lib.ListN.{length}
 use borrow.Author.Needs.{needs}

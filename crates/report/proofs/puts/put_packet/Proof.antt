@@ -1,9 +1,8 @@
 -- `report::puts::put_packet` meets its contract: each part stands behind the one before it, and the room is as long as they are together.
-use mathlib.Core.Path.{_≡_, _∙_}
+use mathlib.Core.Path.{_∙_}
 use mathlib.Core.List.{_++_}
-use Prim.Native.Nat.{_≤_}
 use native.Mathlib.Omega.{arith}
-use lib.ListN.{length, length-set}
+use lib.ListN.{length-set}
 use Rattle.report.specs.Texts.{space, colon, numberWith, endingText, packetHead}
 use Rattle.report.proofs.Rooms.{put-next, byte-next}
 use Rattle.report.proofs.Texts.{head-parts}

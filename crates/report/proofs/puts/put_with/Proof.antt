@@ -1,8 +1,7 @@
 -- `report::puts::put_with` meets its contract: the byte stands behind the number's digits, and the room has one byte more than they take.
-use mathlib.Core.Path.{_≡_, _∙_}
+use mathlib.Core.Path.{_∙_}
 use native.Mathlib.Omega.{arith}
-use borrow.Author.Needs.{needs}
-use lib.ListN.{length, length-set}
+use lib.ListN.{length-set}
 use Rattle.report.specs.Texts.{decimal, numberWith}
 use Rattle.report.proofs.Rooms.{byte-next}
 use Rattle.report.proofs.Texts.{with-length}
