@@ -4,8 +4,31 @@
 # for a fact that no longer holds; that a caller then rests on a refused function is no fault of its own. An edit of a constant, a definition or a
 # theorem names no function but the place of its refusal, `refused at: FILE LAW`, or the file alone where it is the proof of a function: the log's first error
 # has to be there. The last line adds up the wrong answers.
+#
+#   tests/refused.sh            judges what `rt ci` or `rt must-fail` left in target/must-fail
+#   tests/refused.sh CRATE..    tries the edits of these crates alone, and judges them
 set -euo pipefail
 cd "$(dirname "$0")/.."
+
+logs=target/must-fail
+edits=(crates/*/must-fail/*.edit)
+if [ $# -gt 0 ]; then
+    # `rt must-fail` tries the edits of the crates below too, so it is asked in a copy that has no others.
+    copy=$(mktemp -d)
+    trap 'rm -rf "$copy"' EXIT
+    cp -R crates crates.txt "$copy"
+    rm -rf "$copy"/crates/*/must-fail
+    mkdir -p "$copy/target"
+    for part in bin log obj rlib stamp; do if [ -d "target/$part" ]; then cp -R "target/$part" "$copy/target/$part"; fi; done
+    edits=()
+    for crate in "$@"; do
+        [ -d "crates/$crate/must-fail" ] || { echo "crates/$crate/must-fail: there is no such folder"; exit 2; }
+        cp -R "crates/$crate/must-fail" "$copy/crates/$crate/must-fail"
+        edits+=("crates/$crate"/must-fail/*.edit)
+    done
+    (cd "$copy" && rt must-fail "$@") | grep '^rt: must-fail' || true
+    logs=$copy/target/must-fail
+fi
 
 # The folder of each named function's proof, or of all the functions that it calls in a circle.
 proofs_of() { # CRATE, FUNCTION.. on standard input
@@ -38,12 +61,12 @@ fail() {
     echo "FAILED: $*"
     failed=$((failed + 1))
 }
-for edit in crates/*/must-fail/*.edit; do
+for edit in "${edits[@]}"; do
     crate=${edit#crates/}
     crate=${crate%%/*}
     label=$(basename "$edit" .edit)
-    log=target/must-fail/$crate/$label/.log
-    [ -f "$log" ] || { fail "$log is missing: 'rt ci' writes it"; continue; }
+    log=$logs/$crate/$label/.log
+    [ -f "$log" ] || { fail "$edit was not tried: $log is missing"; continue; }
     shape=$(grep -F -o -m 1 "$shapes" "$log" || true)
     [ -z "$shape" ] || { fail "$edit is refused for the shape of a proof or a name, not for a fact: $log says '$shape'"; continue; }
     errors=$(errors_of "$crate" "$label" "$log")
