@@ -7,12 +7,12 @@ use std::path::PathBuf;
 const STATIC_LIBRARIES: &str = "../target/staticlib";
 /// The static libraries that `src/rattle.rs` names.
 const ARCHIVES: [&str; 6] = [
-    "libcalls.a",
+    "libcalls_hall.a",
     "libdriver.a",
-    "libpacketcalls.a",
-    "libpartcalls.a",
-    "libsheetcalls.a",
-    "liblinecalls.a",
+    "libcalls_packets.a",
+    "libcalls_parts.a",
+    "libcalls_sheets.a",
+    "libcalls_lines.a",
 ];
 
 fn main() {

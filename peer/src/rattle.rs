@@ -1,5 +1,5 @@
-//! The proved calls, as the static libraries of the crates `calls`, `packetcalls`, `driver`, `partcalls`, `sheetcalls` and
-//! `linecalls` export them, behind safe functions.
+//! The proved calls, as the static libraries of the crates `calls_hall`, `calls_packets`, `driver`, `calls_parts`, `calls_sheets` and
+//! `calls_lines` export them, behind safe functions.
 //!
 //! Nothing checks these declarations against the Rattle source: whoever changes a signature there changes it here. A slice is two
 //! arguments to Rattle, a pointer and a length, and is declared as two. A Rust slice would be one: where a single register is left
@@ -10,7 +10,7 @@ use peer::frame::Fields;
 use peer::hall::{Hall, LEVELS};
 
 mod foreign {
-    #[link(name = "calls", kind = "static")]
+    #[link(name = "calls_hall", kind = "static")]
     unsafe extern "C" {
         pub fn calls_sizes(n: u32, k: u32, b: u32, room: *mut u32, length: usize) -> u32;
         pub fn calls_uid(
@@ -78,7 +78,7 @@ mod foreign {
         pub fn calls_route_links(n: u32, k: u32, b: u32, x: u32, y: u32) -> u32;
     }
 
-    #[link(name = "packetcalls", kind = "static")]
+    #[link(name = "calls_packets", kind = "static")]
     unsafe extern "C" {
         pub fn calls_journey(
             n: u32,
@@ -205,7 +205,7 @@ mod foreign {
         ) -> u32;
     }
 
-    #[link(name = "partcalls", kind = "static")]
+    #[link(name = "calls_parts", kind = "static")]
     unsafe extern "C" {
         pub fn calls_n_fits(n: u32) -> bool;
         pub fn calls_k_fits(n: u32, k: u32) -> bool;
@@ -241,7 +241,7 @@ mod foreign {
         pub fn calls_word_at(sheet: *const u8, bytes: usize, at: usize) -> u32;
     }
 
-    #[link(name = "sheetcalls", kind = "static")]
+    #[link(name = "calls_sheets", kind = "static")]
     unsafe extern "C" {
         pub fn calls_sheet(sheet: *const u8, bytes: usize, room: *mut u32, length: usize) -> u32;
         pub fn calls_sheet_place(sheet: *const u8, bytes: usize) -> u32;
@@ -274,7 +274,7 @@ mod foreign {
         ) -> u32;
     }
 
-    #[link(name = "linecalls", kind = "static")]
+    #[link(name = "calls_lines", kind = "static")]
     unsafe extern "C" {
         pub fn calls_opening_line(
             sheet: *const u8,

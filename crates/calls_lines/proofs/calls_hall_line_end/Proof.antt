@@ -1,0 +1,18 @@
+-- `calls_lines::calls_hall_line_end` meets its contract: it writes what the call writes.
+use mathlib.Core.Path.{ap}
+use borrow.Author.Needs.{needs}
+use Rattle.report.specs.declared.Written.{Written}
+use Rattle.calls_lines.proofs.calls_hall_line_end.Statement.{statement}
+use Rattle.calls_lines.proofs.calls_hall_line_end.Tie as tie
+
+hall-line-requires : tie.Need-hall-line-requires
+hall-line-requires c κs = search needs
+
+same-length : tie.Need-same-length
+same-length c = search needs
+
+returns : tie.Need-returns
+returns c = (ap (λ (w : Written). w .end) (c .before .before .hall-line .ensures .0), c .before .before .hall-line .ensures .1)
+
+pub calls-hall-line-end-spec : {M : Type 1} → statement M
+calls-hall-line-end-spec = tie.close (tie.spec hall-line-requires same-length returns)
