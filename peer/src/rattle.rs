@@ -282,14 +282,8 @@ mod foreign {
             at: usize,
             room: *mut u8,
             length: usize,
+            end: *mut usize,
         ) -> u32;
-        pub fn calls_opening_line_end(
-            sheet: *const u8,
-            bytes: usize,
-            at: usize,
-            room: *mut u8,
-            length: usize,
-        ) -> usize;
         pub fn calls_journey_line(
             sheet: *const u8,
             bytes: usize,
@@ -297,17 +291,15 @@ mod foreign {
             at: usize,
             room: *mut u8,
             length: usize,
+            end: *mut usize,
         ) -> u32;
-        pub fn calls_journey_line_end(
-            sheet: *const u8,
-            bytes: usize,
-            i: u32,
+        pub fn calls_end_line(
+            packets: u32,
             at: usize,
             room: *mut u8,
             length: usize,
-        ) -> usize;
-        pub fn calls_end_line(packets: u32, at: usize, room: *mut u8, length: usize) -> u32;
-        pub fn calls_end_line_end(packets: u32, at: usize, room: *mut u8, length: usize) -> usize;
+            end: *mut usize,
+        ) -> u32;
         pub fn calls_hall_line(
             n: u32,
             k: u32,
@@ -315,29 +307,16 @@ mod foreign {
             at: usize,
             room: *mut u8,
             length: usize,
+            end: *mut usize,
         ) -> u32;
-        pub fn calls_hall_line_end(
-            n: u32,
-            k: u32,
-            b: u32,
-            at: usize,
-            room: *mut u8,
-            length: usize,
-        ) -> usize;
         pub fn calls_refused_line(
             number: u32,
             place: u32,
             at: usize,
             room: *mut u8,
             length: usize,
+            end: *mut usize,
         ) -> u32;
-        pub fn calls_refused_line_end(
-            number: u32,
-            place: u32,
-            at: usize,
-            room: *mut u8,
-            length: usize,
-        ) -> usize;
         pub fn calls_packet_line(
             source: u32,
             dst: u32,
@@ -349,19 +328,8 @@ mod foreign {
             at: usize,
             room: *mut u8,
             length: usize,
+            end: *mut usize,
         ) -> u32;
-        pub fn calls_packet_line_end(
-            source: u32,
-            dst: u32,
-            ending: u32,
-            links: u32,
-            reroutes: u32,
-            uids: *const u32,
-            count: usize,
-            at: usize,
-            room: *mut u8,
-            length: usize,
-        ) -> usize;
         pub fn calls_trace_piece(
             sheet: *const u8,
             bytes: usize,
@@ -725,73 +693,49 @@ pub fn packet_fields(sheet: &[u8], i: u32, room: &mut [u32]) -> u32 {
     unsafe { foreign::calls_packet_fields(sheet.as_ptr(), sheet.len(), i, start, length) }
 }
 
-/// The first line of a sheet's trace, written at a place: its refusal.
+/// The first line of a sheet's trace, written at a place; the place behind it.
 #[inline]
-pub fn opening_line(sheet: &[u8], at: usize, room: &mut [u8]) -> u32 {
+pub fn opening_line(sheet: &[u8], at: usize, room: &mut [u8], end: &mut usize) -> u32 {
     let (start, length) = (room.as_mut_ptr(), room.len());
-    unsafe { foreign::calls_opening_line(sheet.as_ptr(), sheet.len(), at, start, length) }
+    unsafe { foreign::calls_opening_line(sheet.as_ptr(), sheet.len(), at, start, length, end) }
 }
 
-/// The same line, written in the same way: the place behind it.
+/// The line of a packet's journey, written at a place; the place behind it.
 #[inline]
-pub fn opening_line_end(sheet: &[u8], at: usize, room: &mut [u8]) -> usize {
+pub fn journey_line(sheet: &[u8], i: u32, at: usize, room: &mut [u8], end: &mut usize) -> u32 {
     let (start, length) = (room.as_mut_ptr(), room.len());
-    unsafe { foreign::calls_opening_line_end(sheet.as_ptr(), sheet.len(), at, start, length) }
+    let (first, bytes) = (sheet.as_ptr(), sheet.len());
+    unsafe { foreign::calls_journey_line(first, bytes, i, at, start, length, end) }
 }
 
-/// The line of a packet's journey, written at a place: its refusal.
+/// The last line of a trace, written at a place; the place behind it.
 #[inline]
-pub fn journey_line(sheet: &[u8], i: u32, at: usize, room: &mut [u8]) -> u32 {
+pub fn end_line(packets: u32, at: usize, room: &mut [u8], end: &mut usize) -> u32 {
+    unsafe { foreign::calls_end_line(packets, at, room.as_mut_ptr(), room.len(), end) }
+}
+
+/// The line of a hall, written at a place; the place behind it.
+#[inline]
+pub fn hall_line(h: Hall, at: usize, room: &mut [u8], end: &mut usize) -> u32 {
+    unsafe { foreign::calls_hall_line(h.n, h.k, h.b, at, room.as_mut_ptr(), room.len(), end) }
+}
+
+/// The line of a refused sheet, written at a place; the place behind it.
+#[inline]
+pub fn refused_line(number: u32, place: u32, at: usize, room: &mut [u8], end: &mut usize) -> u32 {
     let (start, length) = (room.as_mut_ptr(), room.len());
-    unsafe { foreign::calls_journey_line(sheet.as_ptr(), sheet.len(), i, at, start, length) }
+    unsafe { foreign::calls_refused_line(number, place, at, start, length, end) }
 }
 
-/// The same line, written in the same way: the place behind it.
+/// The line of a packet, by its source, dst, ending, links, reroutes and uids, written at a place; the place behind it.
 #[inline]
-pub fn journey_line_end(sheet: &[u8], i: u32, at: usize, room: &mut [u8]) -> usize {
-    let (start, length) = (room.as_mut_ptr(), room.len());
-    unsafe { foreign::calls_journey_line_end(sheet.as_ptr(), sheet.len(), i, at, start, length) }
-}
-
-/// The last line of a trace, written at a place: its refusal.
-#[inline]
-pub fn end_line(packets: u32, at: usize, room: &mut [u8]) -> u32 {
-    unsafe { foreign::calls_end_line(packets, at, room.as_mut_ptr(), room.len()) }
-}
-
-/// The same line, written in the same way: the place behind it.
-#[inline]
-pub fn end_line_end(packets: u32, at: usize, room: &mut [u8]) -> usize {
-    unsafe { foreign::calls_end_line_end(packets, at, room.as_mut_ptr(), room.len()) }
-}
-
-/// The line of a hall, written at a place: its refusal.
-#[inline]
-pub fn hall_line(h: Hall, at: usize, room: &mut [u8]) -> u32 {
-    unsafe { foreign::calls_hall_line(h.n, h.k, h.b, at, room.as_mut_ptr(), room.len()) }
-}
-
-/// The same line, written in the same way: the place behind it.
-#[inline]
-pub fn hall_line_end(h: Hall, at: usize, room: &mut [u8]) -> usize {
-    unsafe { foreign::calls_hall_line_end(h.n, h.k, h.b, at, room.as_mut_ptr(), room.len()) }
-}
-
-/// The line of a refused sheet, written at a place: its refusal.
-#[inline]
-pub fn refused_line(number: u32, place: u32, at: usize, room: &mut [u8]) -> u32 {
-    unsafe { foreign::calls_refused_line(number, place, at, room.as_mut_ptr(), room.len()) }
-}
-
-/// The same line, written in the same way: the place behind it.
-#[inline]
-pub fn refused_line_end(number: u32, place: u32, at: usize, room: &mut [u8]) -> usize {
-    unsafe { foreign::calls_refused_line_end(number, place, at, room.as_mut_ptr(), room.len()) }
-}
-
-/// The line of a packet, by its source, dst, ending, links, reroutes and uids, written at a place: its refusal.
-#[inline]
-pub fn packet_line(told: [u32; 5], uids: &[u32], at: usize, room: &mut [u8]) -> u32 {
+pub fn packet_line(
+    told: [u32; 5],
+    uids: &[u32],
+    at: usize,
+    room: &mut [u8],
+    end: &mut usize,
+) -> u32 {
     let [source, dst, ending, links, reroutes] = told;
     unsafe {
         foreign::calls_packet_line(
@@ -805,26 +749,7 @@ pub fn packet_line(told: [u32; 5], uids: &[u32], at: usize, room: &mut [u8]) -> 
             at,
             room.as_mut_ptr(),
             room.len(),
-        )
-    }
-}
-
-/// The same line, written in the same way: the place behind it.
-#[inline]
-pub fn packet_line_end(told: [u32; 5], uids: &[u32], at: usize, room: &mut [u8]) -> usize {
-    let [source, dst, ending, links, reroutes] = told;
-    unsafe {
-        foreign::calls_packet_line_end(
-            source,
-            dst,
-            ending,
-            links,
-            reroutes,
-            uids.as_ptr(),
-            uids.len(),
-            at,
-            room.as_mut_ptr(),
-            room.len(),
+            end,
         )
     }
 }

@@ -45,13 +45,11 @@ enum Space {
     Whole(usize),
 }
 
-/// The rooms of the two calls that write one line: the one that returns its refusal and the one that returns its end.
+/// What a call that writes one line is lent: the room of the line, and the number that tells its end.
 #[derive(Debug, Clone, PartialEq)]
 pub struct LineRooms {
-    pub number: Room<u8>,
-    pub end: Room<u8>,
-    /// The end that was returned.
-    pub told: usize,
+    pub line_room: Room<u8>,
+    pub end: usize,
     /// The bytes that the rooms have behind the line, or lack, where it is not far behind them.
     spare: Option<isize>,
     /// The peer's line before it is told; empty behind that.
@@ -124,9 +122,8 @@ impl Spot {
             Space::Whole(length) => length,
         };
         LineRooms {
-            number: Room::filled(random, length),
-            end: Room::filled(random, length),
-            told: random.word() as usize,
+            line_room: Room::filled(random, length),
+            end: random.word() as usize,
             spare: end.and_then(|end| length.checked_signed_diff(end)),
             line: Vec::new(),
         }
@@ -144,32 +141,34 @@ impl LineRooms {
     /// Rooms for any line at place 0.
     pub fn ample() -> LineRooms {
         LineRooms {
-            number: Room::new(LONGEST_LINE),
-            end: Room::new(LONGEST_LINE),
-            told: 0,
+            line_room: Room::new(LONGEST_LINE),
+            end: 0,
             spare: None,
             line: Vec::new(),
         }
     }
 
-    /// Tells a line as both calls do: returns its refusal, or writes it and tells its end.
+    /// The room, and the number that tells the end, as they are lent to a call.
+    pub fn lent(&mut self) -> (&mut [u8], &mut usize) {
+        (self.line_room.lent(), &mut self.end)
+    }
+
+    /// Tells a line: returns its refusal, or writes it and tells its end.
     pub fn tell(&mut self, refusal: u32, line: &[u8], at: usize) -> u32 {
-        let number = put(refusal, line, at, self.number.lent());
-        let again = put(refusal, line, at, self.end.lent());
-        self.told = end_of(again, line, at);
+        let number = put(refusal, line, at, self.line_room.lent());
+        if number == NONE {
+            self.end = at + line.len();
+        }
         number
     }
 
-    /// The same for a line that a function adds to a text, and that is never refused but for the room: each of the two calls works it
-    /// out by itself.
+    /// The same for a line that a function adds to a text, and that is never refused but for the room.
     pub fn tell_added(&mut self, at: usize, add: impl Fn(&mut Vec<u8>)) -> u32 {
-        add(&mut self.line);
-        let number = put(NONE, &self.line, at, self.number.lent());
-        self.line.clear();
-        add(&mut self.line);
-        let again = put(NONE, &self.line, at, self.end.lent());
-        self.told = end_of(again, &self.line, at);
-        self.line.clear();
+        let mut line = std::mem::take(&mut self.line);
+        add(&mut line);
+        let number = self.tell(NONE, &line, at);
+        line.clear();
+        self.line = line;
         number
     }
 }
@@ -179,14 +178,6 @@ pub fn line_length(add: impl Fn(&mut Vec<u8>)) -> usize {
     let mut line = Vec::new();
     add(&mut line);
     line.len()
-}
-
-/// The place behind a line that was written at a place; 0 where it is refused.
-fn end_of(refusal: u32, line: &[u8], at: usize) -> usize {
-    match refusal {
-        NONE => at + line.len(),
-        _ => 0,
-    }
 }
 
 /// Writes a line at a place where there is no refusal and room for it; returns the refusal.

@@ -12,7 +12,7 @@ use crate::rattle;
 /// The random lines of a short comparison of each call that writes one from plain numbers.
 pub const LINES: u32 = 40_000;
 
-/// The calls `calls_end_line` and `calls_end_line_end`.
+/// The call `calls_end_line`.
 pub struct EndLine;
 
 /// A number of packets and where its line is to be written.
@@ -59,8 +59,8 @@ impl Call for EndLine {
 
     fn rattle(input: &Input, rooms: &mut LineRooms) -> u32 {
         let (packets, at) = (input.packets, input.spot.at);
-        rooms.told = rattle::end_line_end(packets, at, rooms.end.lent());
-        rattle::end_line(packets, at, rooms.number.lent())
+        let (room, end) = rooms.lent();
+        rattle::end_line(packets, at, room, end)
     }
 
     fn peer(input: &Input, rooms: &mut LineRooms) -> u32 {

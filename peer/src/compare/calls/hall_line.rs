@@ -12,7 +12,7 @@ use crate::compare::numbers::{any_numbers_hall, edge_numbers_halls};
 use crate::compare::texts::{line_length, LineRooms, Spot, FITS};
 use crate::rattle;
 
-/// The calls `calls_hall_line` and `calls_hall_line_end`.
+/// The call `calls_hall_line`.
 pub struct HallLine;
 
 /// A hall, or any three numbers, and where its line is to be written.
@@ -59,8 +59,8 @@ impl Call for HallLine {
 
     fn rattle(input: &Input, rooms: &mut LineRooms) -> u32 {
         let (hall, at) = (input.hall, input.spot.at);
-        rooms.told = rattle::hall_line_end(hall, at, rooms.end.lent());
-        rattle::hall_line(hall, at, rooms.number.lent())
+        let (room, end) = rooms.lent();
+        rattle::hall_line(hall, at, room, end)
     }
 
     fn peer(input: &Input, rooms: &mut LineRooms) -> u32 {

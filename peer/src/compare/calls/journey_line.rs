@@ -12,7 +12,7 @@ use crate::compare::sheets::alone;
 use crate::compare::texts::{LineRooms, Spot, FITS};
 use crate::rattle;
 
-/// The calls `calls_journey_line` and `calls_journey_line_end`.
+/// The call `calls_journey_line`.
 pub struct JourneyLine;
 
 /// A sheet, the index of a packet, and where its line is to be written.
@@ -59,8 +59,8 @@ impl Call for JourneyLine {
 
     fn rattle(input: &Input, rooms: &mut LineRooms) -> u32 {
         let (sheet, i, at) = (&input.picked.sheet, input.picked.i, input.spot.at);
-        rooms.told = rattle::journey_line_end(sheet, i, at, rooms.end.lent());
-        rattle::journey_line(sheet, i, at, rooms.number.lent())
+        let (room, end) = rooms.lent();
+        rattle::journey_line(sheet, i, at, room, end)
     }
 
     fn peer(input: &Input, rooms: &mut LineRooms) -> u32 {

@@ -11,7 +11,7 @@ use crate::compare::sheets::{any_sheet, edge_sheets, without_packets, Sheet};
 use crate::compare::texts::{LineRooms, Spot, FITS};
 use crate::rattle;
 
-/// The calls `calls_opening_line` and `calls_opening_line_end`.
+/// The call `calls_opening_line`.
 pub struct OpeningLine;
 
 /// A sheet and where its line is to be written.
@@ -58,8 +58,8 @@ impl Call for OpeningLine {
 
     fn rattle(input: &Input, rooms: &mut LineRooms) -> u32 {
         let (sheet, at) = (&input.sheet, input.spot.at);
-        rooms.told = rattle::opening_line_end(sheet, at, rooms.end.lent());
-        rattle::opening_line(sheet, at, rooms.number.lent())
+        let (room, end) = rooms.lent();
+        rattle::opening_line(sheet, at, room, end)
     }
 
     fn peer(input: &Input, rooms: &mut LineRooms) -> u32 {

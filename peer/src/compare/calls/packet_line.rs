@@ -20,7 +20,7 @@ const ENDINGS: u32 = 10;
 /// The servers of the largest hall.
 const SERVERS: u32 = 27_630_792;
 
-/// The calls `calls_packet_line` and `calls_packet_line_end`.
+/// The call `calls_packet_line`.
 pub struct PacketLine;
 
 /// Source, dst, ending, links and reroutes of a packet, uids, more or fewer than the links say, and where the line is to be written.
@@ -85,8 +85,8 @@ impl Call for PacketLine {
 
     fn rattle(input: &Input, rooms: &mut LineRooms) -> u32 {
         let (told, uids, at) = (input.told, &input.uids, input.spot.at);
-        rooms.told = rattle::packet_line_end(told, uids, at, rooms.end.lent());
-        rattle::packet_line(told, uids, at, rooms.number.lent())
+        let (room, end) = rooms.lent();
+        rattle::packet_line(told, uids, at, room, end)
     }
 
     fn peer(input: &Input, rooms: &mut LineRooms) -> u32 {

@@ -11,7 +11,7 @@ use crate::compare::numbers::{any_number, edge_numbers};
 use crate::compare::texts::{line_length, LineRooms, Spot, FITS};
 use crate::rattle;
 
-/// The calls `calls_refused_line` and `calls_refused_line_end`.
+/// The call `calls_refused_line`.
 pub struct RefusedLine;
 
 /// A refusal's number and place, or any two numbers, and where the line is to be written.
@@ -67,8 +67,8 @@ impl Call for RefusedLine {
 
     fn rattle(input: &Input, rooms: &mut LineRooms) -> u32 {
         let (number, place, at) = (input.number, input.place, input.spot.at);
-        rooms.told = rattle::refused_line_end(number, place, at, rooms.end.lent());
-        rattle::refused_line(number, place, at, rooms.number.lent())
+        let (room, end) = rooms.lent();
+        rattle::refused_line(number, place, at, room, end)
     }
 
     fn peer(input: &Input, rooms: &mut LineRooms) -> u32 {
