@@ -21,9 +21,8 @@ use Rattle.forward.specs.declared.Packet.{Packet}
 use Rattle.forward.specs.declared.Step.{Step}
 use Rattle.forward.specs.declared.Journey.{Journey}
 use Rattle.forward.specs.Packets.{forwarded, tidied}
-use Rattle.forward.specs.Seen.{seen}
 use Rattle.forward.specs.Steps.{step}
-use Rattle.forward.specs.Journeys.{Trip, stepAt, endsAt, goesOn, tripOn, trip}
+use Rattle.forward.specs.Journeys.{Trip, stepAt, endsAt, goesOn, tripOn, trip, sight}
 use Rattle.forward.specs.Answers.{most-passed, passed, journeyFrom}
 use Rattle.forward.specs.Inside.{Here, Sound, Departing}
 use Rattle.forward.proofs.Trips.{tidied-retry, step-sends}
@@ -57,7 +56,7 @@ module _ (h : Hall) (table : List ℕ) (me : ℕ) (p : Packet) (a : Departing h 
   module _ (o : Step) (q : o ≡ stepAt h table me p) where
     pub step-few : o .reroutes ≤ 15
     step-few =
-        let r = reroutes-few h (seen h (part h table me)) me (tidied p) in
+        let r = reroutes-few h (sight h table me) me (tidied p) in
         let t = tidied-retry p in
         let b = a .packet .retry-fits in
         rw q (omega arith)
@@ -93,7 +92,7 @@ module _ (h : Hall) (table : List ℕ) (me : ℕ) (p : Packet) (a : Departing h 
       pub departs-again : Departing h table (o .next) (o .packet)
       departs-again =
           let s = tidied-sound h p (tidied p) refl (a .packet) in
-          let f = step-forwards h (seen h (part h table me)) (λ x w. linked h (part h table me) x w ≡ true) (seen-links h (part h table me) (valid-known h (a .sound)))
+          let f = step-forwards h (sight h table me) (λ x w. linked h (part h table me) x w ≡ true) (seen-links h (part h table me) (valid-known h (a .sound)))
           (a .sound) me (tidied p) (a .fits) (record { dst-in = s .dst-fits; proxy-in = s .proxy-fits }) forwards in
           let g = step-sends h table me p forwards in
           rw q (record {

@@ -9,13 +9,11 @@ use lib.ListN.{length}
 use borrow.Author.Tests.{eqb-true, eqb-false}
 use Rattle.combine.proofs.Tests.{pick-holds}
 use Rattle.hall.specs.declared.Hall.{Hall}
-use Rattle.ports.specs.Codes.{part}
 use Rattle.route.specs.Routes.{hops}
 use Rattle.route.specs.Walks.{Each}
 use Rattle.forward.specs.declared.Packet.{Packet}
 use Rattle.forward.specs.Packets.{forwarded, cleared, tidied}
-use Rattle.forward.specs.Seen.{seen}
-use Rattle.forward.specs.Journeys.{Trip, stepAt, endsAt, goesOn, tripOn, trip}
+use Rattle.forward.specs.Journeys.{Trip, stepAt, endsAt, goesOn, tripOn, trip, sight}
 use Rattle.forward.proofs.Passes.{pick-ways}
 use Rattle.forward.specs.Travels.{Travels, last-step, one-step, Comes, at-source, next-step}
 use Rattle.forward.proofs.Ways.{Ending, is-forwarded, is-delivered, is-drop-ttl, is-drop-route, is-drop-retry, is-drop-proxy, SentOn, Final, final-delivered, final-drop-ttl, final-drop-route, final-drop-retry, final-drop-proxy, LastStep}
@@ -43,7 +41,7 @@ module _ (h : Hall) (table : List ℕ) where
   -- what a step sends on, of the packet as it came
   pub step-sends : (me : ℕ) (p : Packet) → stepAt h table me p .ending ≡ forwarded → SentOn p (stepAt h table me p)
   step-sends me p e =
-      let r = sent-on h (seen h (part h table me)) me (tidied p) e in
+      let r = sent-on h (sight h table me) me (tidied p) e in
       record {
         dst = r .dst ∙ tidied-dst p;
         ttl = r .ttl ∙ tidied-ttl p;
@@ -90,14 +88,14 @@ module _ (h : Hall) (table : List ℕ) where
 
   -- fewer reroutes than the retry, and none where it is 0
   pub reroutes-within : {me : ℕ} {p : Packet} {j : Trip} → Travels h table me p j → j .reroutes ≤ p .retry - 1
-  reroutes-within {me} {p} (last-step d) = omega (arith, tidied-retry p, reroutes-few h (seen h (part h table me)) me (tidied p))
+  reroutes-within {me} {p} (last-step d) = omega (arith, tidied-retry p, reroutes-few h (sight h table me) me (tidied p))
   reroutes-within {me} {p} (one-step {rest = rest} e t) =
       let z = step-sends me p e in
       sum-few (stepAt h table me p .packet .retry) (stepAt h table me p .reroutes) (rest .reroutes) (p .retry) (z .retry) (z .spared) (reroutes-within t)
 
   -- delivery or one of the four drops
   pub trip-ending : {me : ℕ} {p : Packet} {j : Trip} → Travels h table me p j → Final (j .ending)
-  trip-ending {me} {p} (last-step d) = final (step-ending h (seen h (part h table me)) me (tidied p)) d
+  trip-ending {me} {p} (last-step d) = final (step-ending h (sight h table me) me (tidied p)) d
   trip-ending (one-step e t) = trip-ending t
 
   -- what comes to a server behind a step that forwards comes there from before it

@@ -9,8 +9,9 @@ use Rattle.hall.specs.declared.Hall.{Hall}
 use Rattle.ports.specs.Codes.{part}
 use Rattle.forward.specs.declared.Packet.{Packet}
 use Rattle.forward.specs.declared.Step.{Step}
-use Rattle.forward.specs.Packets.{forwarded}
-use Rattle.forward.specs.Steps.{step}
+use Rattle.forward.specs.Packets.{forwarded, tidied}
+use Rattle.forward.specs.Seen.{Seen, seen}
+use Rattle.forward.specs.Steps.{stepOn}
 
 -- the ending, the links crossed, the reroutes, the uids passed
 pub record Trip : Type 0 where
@@ -19,9 +20,13 @@ pub record Trip : Type 0 where
   pub reroutes : ℕ
   pub uids : List ℕ
 
+-- what the step of a server sees of the hall table: its part
+abbrev pub sight : Hall → List ℕ → ℕ → Seen
+sight h table me = seen h (part h table me)
+
 -- the step of a server of the hall
 abbrev pub stepAt : Hall → List ℕ → ℕ → Packet → Step
-stepAt h table me p = step h (part h table me) me p
+stepAt h table me p = stepOn h (sight h table me) me (tidied p)
 
 -- the last step
 abbrev pub endsAt : ℕ → Step → Trip

@@ -15,9 +15,9 @@ use Rattle.local.proofs.Uids.{linked-hall}
 use Rattle.local.specs.Local.{cellSize, placeOf, linked}
 use Rattle.forward.specs.declared.Packet.{Packet}
 use Rattle.forward.specs.Packets.{forwarded, drop-retry, cleared, tidied}
-use Rattle.forward.specs.Seen.{usable, seen}
+use Rattle.forward.specs.Seen.{usable}
 use Rattle.forward.specs.Endings.{Spent}
-use Rattle.forward.specs.Journeys.{stepAt}
+use Rattle.forward.specs.Journeys.{stepAt, sight}
 use Rattle.forward.proofs.Passes.{pick-ways}
 use Rattle.forward.proofs.Steps.{delivered-there, drop-ttl-there, drop-route-means, drop-retry-means, drop-proxy-means}
 use Rattle.forward.proofs.Ways.{Fits, Hop, inside, over, Final, final-delivered, final-drop-ttl, final-drop-route, final-drop-retry, final-drop-proxy}
@@ -40,7 +40,7 @@ module _ (h : Hall) (table : List ℕ) (is-valid : valid h ≡ true) where
   unfolding usable placeOf cellSize
   port-there me i l e = sym (part-up h table (h .b) me i (n-pos h known) l) ∙ e
 
-  hop-usable : (me next : ℕ) → Hop h (seen h (part h table me)) (λ x z. linked h (part h table me) x z ≡ true) me next → Usable h table me next
+  hop-usable : (me next : ℕ) → Hop h (sight h table me) (λ x z. linked h (part h table me) x z ≡ true) me next → Usable h table me next
   hop-usable me next (inside place l e j) = up-to-b (rw e (sym (linked-hall h table me place known l) ∙ j))
   hop-usable me next (over j low high e u) = above-b j low high e (port-there me (suc j) high u)
 
@@ -50,25 +50,25 @@ module _ (h : Hall) (table : List ℕ) (is-valid : valid h ≡ true) where
 
   stands-on : (me : ℕ) (p : Packet) → Stands me p → stepAt h table me p .ending ≡ forwarded → Stands (stepAt h table me p .next) (stepAt h table me p .packet)
   stands-on me p k e =
-      let f = step-forwards h (seen h (part h table me)) (λ x z. linked h (part h table me) x z ≡ true) (seen-links h (part h table me) known) is-valid
+      let f = step-forwards h (sight h table me) (λ x z. linked h (part h table me) x z ≡ true) (seen-links h (part h table me) known) is-valid
       me (tidied p) (k .0) (tidied-fits h p (k .1)) e in
       (f .inside-hall, f .packet-fits)
 
   hops-usable : (me : ℕ) (p : Packet) → Stands me p → stepAt h table me p .ending ≡ forwarded → Usable h table me (stepAt h table me p .next)
   hops-usable me p k e =
-      let f = step-forwards h (seen h (part h table me)) (λ x z. linked h (part h table me) x z ≡ true) (seen-links h (part h table me) known) is-valid
+      let f = step-forwards h (sight h table me) (λ x z. linked h (part h table me) x z ≡ true) (seen-links h (part h table me) known) is-valid
       me (tidied p) (k .0) (tidied-fits h p (k .1)) e in
       hop-usable me (stepAt h table me p .next) (f .hop)
 
 -- what the ending of a step means
 means : (h : Hall) (table : List ℕ) (at : ℕ) (p : Packet) {e : ℕ} → Final e → stepAt h table at p .ending ≡ e → Means h table at p e
-means h table at p final-delivered q = means-delivered (delivered-there h (seen h (part h table at)) at (tidied p) q ∙ tidied-dst p)
+means h table at p final-delivered q = means-delivered (delivered-there h (sight h table at) at (tidied p) q ∙ tidied-dst p)
 means h table at p final-drop-ttl q =
-    let w = drop-ttl-there h (seen h (part h table at)) at (tidied p) q in
+    let w = drop-ttl-there h (sight h table at) at (tidied p) q in
     means-ttl (λ e. w .0 (e ∙ sym (tidied-dst p))) (sym (tidied-ttl p) ∙ w .1)
-means h table at p final-drop-route q = means-route (drop-route-means h (seen h (part h table at)) at (tidied p) q)
-means h table at p final-drop-retry q = means-retry (drop-retry-means h (seen h (part h table at)) at (tidied p) q)
-means h table at p final-drop-proxy q = means-proxy (drop-proxy-means h (seen h (part h table at)) at (tidied p) q)
+means h table at p final-drop-route q = means-route (drop-route-means h (sight h table at) at (tidied p) q)
+means h table at p final-drop-retry q = means-retry (drop-retry-means h (sight h table at) at (tidied p) q)
+means h table at p final-drop-proxy q = means-proxy (drop-proxy-means h (sight h table at) at (tidied p) q)
 
 pub any-codes : AnyCodes
 any-codes h table source p s =
@@ -96,7 +96,7 @@ any-codes h table source p s =
 
 -- drop 3 is the only ending of its number
 spent-then : (h : Hall) (table : List ℕ) (at : ℕ) (p : Packet) {e : ℕ} → Means h table at p e → e ≡ drop-retry
-    → Spent h (seen h (part h table at)) at (tidied p) (stepAt h table at p)
+    → Spent h (sight h table at) at (tidied p) (stepAt h table at p)
 spent-then h table at p (means-delivered d) q = absurd (omega arith)
 spent-then h table at p (means-ttl d z) q = absurd (omega arith)
 spent-then h table at p (means-route w) q = absurd (omega arith)

@@ -37,7 +37,7 @@ use Rattle.forward.specs.declared.Step.{Step}
 use Rattle.forward.specs.Packets.{forwarded, delivered, cleared, tidied, isArrived, goal, aged}
 use Rattle.forward.specs.Seen.{usable, seen}
 use Rattle.forward.specs.Steps.{reachable, stepOn}
-use Rattle.forward.specs.Journeys.{Trip, stepAt, trip}
+use Rattle.forward.specs.Journeys.{Trip, stepAt, trip, sight}
 use Rattle.forward.specs.Endings.{Target, the-goal, the-near, Fails, unusable, out-of-reach}
 use Rattle.forward.specs.Travels.{Last, Travels, last-step, one-step}
 use Rattle.forward.proofs.Ways.{nears, crosses, no-route, spent, no-proxy, Passes, ends, clears, sets, Steps, delivers, dies, arrives, sets-out, Fits}
@@ -146,8 +146,8 @@ module _ (h : Hall) (table : List ℕ) (is-valid : valid h ≡ true) (long : len
   part-up : (x : ℕ) → x < servers h → AllUp h (part h table x)
   part-up x l = all-up-part h table x all (record { is-valid = is-valid; long = long; below = l })
 
-  cleared-step : (x : ℕ) (p : Packet) → p .«has_proxy» ≡ false → stepAt h table x p ≡ stepOn h (seen h (part h table x)) x (cleared p)
-  cleared-step x p e = ap (stepOn h (seen h (part h table x)) x) (tidied-none p e)
+  cleared-step : (x : ℕ) (p : Packet) → p .«has_proxy» ≡ false → stepAt h table x p ≡ stepOn h (sight h table x) x (cleared p)
+  cleared-step x p e = ap (stepOn h (sight h table x) x) (tidied-none p e)
 
   step-goes : (x : ℕ) (p : Packet) → p .«has_proxy» ≡ false → x < servers h → p .dst < servers h → (x ≡ p .dst → ⊥) → 0 < p .ttl → Onward h x p (stepAt h table x p)
   step-goes x p e here there ne l = rw (cleared-step x p e) (step-onward h is-valid (part h table x) (part-up x here) x p here there ne l)
@@ -155,11 +155,11 @@ module _ (h : Hall) (table : List ℕ) (is-valid : valid h ≡ true) (long : len
   -- at dst the packet is delivered, and where its TTL is 0 it goes no further
   step-there : (x : ℕ) (p : Packet) → p .«has_proxy» ≡ false → x ≡ p .dst → (stepAt h table x p .ending ≡ delivered) × (stepAt h table x p .reroutes ≡ 0)
   step-there x p e q =
-      let w = cleared-step x p e ∙ there-delivered h (seen h (part h table x)) x (cleared p) q in
+      let w = cleared-step x p e ∙ there-delivered h (sight h table x) x (cleared p) q in
       (ap (λ (o : Step). o .ending) w, ap (λ (o : Step). o .reroutes) w)
 
   step-out : (x : ℕ) (p : Packet) → p .«has_proxy» ≡ false → (x ≡ p .dst → ⊥) → p .ttl ≡ 0 → stepAt h table x p .reroutes ≡ 0
-  step-out x p e d z = ap (λ (o : Step). o .reroutes) (cleared-step x p e ∙ there-drop-ttl h (seen h (part h table x)) x (cleared p) d z)
+  step-out x p e d z = ap (λ (o : Step). o .reroutes) (cleared-step x p e ∙ there-drop-ttl h (sight h table x) x (cleared p) d z)
 
   -- a journey passes the servers that the hops say, without a reroute, and is delivered where the last of them is dst
   record Goes (x : ℕ) (p : Packet) (j : Trip) : Type 0 where
@@ -215,7 +215,7 @@ module _ (h : Hall) (table : List ℕ) (is-valid : valid h ≡ true) (long : len
       next-in : (x : ℕ) (p : Packet) → p .«has_proxy» ≡ false → x < servers h → p .dst < servers h → stepAt h table x p .ending ≡ forwarded → stepAt h table x p .next < servers h
       next-in x p e here there w =
           let f : Fits h (tidied p) = rw (tidied-none p e) (record { dst-in = there; proxy-in = λ q. never q refl }) in
-          step-forwards h (seen h (part h table x)) (λ y z. linked h (part h table x) y z ≡ true) (seen-links h (part h table x) (valid-known h is-valid)) is-valid
+          step-forwards h (sight h table x) (λ y z. linked h (part h table x) y z ≡ true) (seen-links h (part h table x) (valid-known h is-valid)) is-valid
           x (tidied p) here f w .inside-hall
 
 -- what is left to go at first is below 2 ^ (l + 1), l being the lowest level that holds both

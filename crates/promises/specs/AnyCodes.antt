@@ -4,13 +4,11 @@ use mathlib.Core.Path.{_≡_}
 use mathlib.Core.List.{List, [], _∷_, _++_}
 use Prim.Native.Nat.{ℕ, _+_, _-_, _≤_}
 use Rattle.hall.specs.declared.Hall.{Hall}
-use Rattle.ports.specs.Codes.{part}
 use Rattle.route.specs.Routes.{hops}
 use Rattle.route.specs.Walks.{Each}
 use Rattle.forward.specs.declared.Packet.{Packet}
 use Rattle.forward.specs.Packets.{drop-ttl, drop-route, drop-retry, drop-proxy, delivered, tidied}
-use Rattle.forward.specs.Seen.{seen}
-use Rattle.forward.specs.Journeys.{Trip, stepAt, trip}
+use Rattle.forward.specs.Journeys.{Trip, stepAt, trip, sight}
 use Rattle.forward.specs.Endings.{NoRoute, Spent, NoProxy}
 use Rattle.forward.specs.Travels.{Comes}
 use Rattle.promises.specs.Journeys.{Sound, Usable}
@@ -22,11 +20,11 @@ pub data Means (h : Hall) (table : List ℕ) (at : ℕ) (p : Packet) : ℕ → T
   -- its TTL is 0, and it is not at its destination
   means-ttl : (at ≡ p .dst → ⊥) → p .ttl ≡ 0 → Means h table at p drop-ttl
   -- dst is in the own cell, and the local target out of reach
-  means-route : NoRoute h (seen h (part h table at)) at (tidied p) (stepAt h table at p) → Means h table at p drop-route
+  means-route : NoRoute h (sight h table at) at (tidied p) (stepAt h table at p) → Means h table at p drop-route
   -- the retry is spent
-  means-retry : Spent h (seen h (part h table at)) at (tidied p) (stepAt h table at p) → Means h table at p drop-retry
+  means-retry : Spent h (sight h table at) at (tidied p) (stepAt h table at p) → Means h table at p drop-retry
   -- no server of the own cell is a candidate at any level from the first on
-  means-proxy : NoProxy h (seen h (part h table at)) at (tidied p) (stepAt h table at p) → Means h table at p drop-proxy
+  means-proxy : NoProxy h (sight h table at) at (tidied p) (stepAt h table at p) → Means h table at p drop-proxy
 
 -- where a journey ended: the packet that came to that step of it, over the uids passed before, how far its TTL and its retry had fallen by
 -- then, and what the step's ending, which is the journey's, says
