@@ -1,5 +1,5 @@
 #!/usr/bin/env bash
-# The command bin/trace: each example against its expected text, exit statuses, standard error, standard input, several sheets,
+# The command bin/trace: each example against its expected text, exit statuses, standard error, standard input, several sheets, options,
 # refusals in words, what cannot be read or written, sheets of the greatest lengths, and the first use. Its last line adds up
 # the tests.
 set -euo pipefail
@@ -207,21 +207,42 @@ cp examples/unknown-code.sheet "$folder/a folder/-sheet"
 in_folder() { (cd "$folder/a folder" && "$@"); }
 expect "another folder and a name with a space" 0 "$small" "" in_folder "$command" "a sheet"
 expect "a name that begins with a dash" 1 "$refused" "trace: ./-sheet: $words" in_folder "$command" ./-sheet
+expect "a name that begins with a dash, behind --" 1 "$refused" "trace: -sheet: $words" in_folder "$command" -- -sheet
 expect "the command by a relative path" 0 "$small" "" bash -c 'cd examples && ../bin/trace small.sheet'
 
+# The options.
 usage=$("$command" --help && printf x); usage=${usage%x}
 expect "the usage, asked for" 0 "$usage" "" "$command" -h
 expect "an unknown option" 2 "" $'trace: --all: there is no such option; trace --help names them\n' "$command" --all
+lost=$(grep -v DELIVERED examples/large.expected)$'\n'
+mean="mean of the delivered packets:"
+summary="packets 24, delivered 14, lost 10 (DROP1 2, DROP2 2, DROP3 4, DROP4 2); $mean links 4.64, reroutes 0.50"$'\n'
+expect "the lost packets alone" 0 "$lost" "" "$command" --lost examples/large.sheet
+expect "no packet that was lost" 0 $'HALL 4 1 0\nEND 1\n' "" "$command" --lost examples/small.sheet
+expect "a summary" 0 "$large" "trace: examples/large.sheet: $summary" "$command" --summary examples/large.sheet
+expect "a summary and the lost packets, the options behind the sheet" 0 "$lost" "trace: examples/large.sheet: $summary" \
+    "$command" examples/large.sheet --lost --summary
+none="DROP2 0, DROP3 0, DROP4 0); $mean links -, reroutes -"$'\n'
+changed 64 1 '\0' >"$folder/lost.sheet"
+expect "a summary where no packet was delivered" 0 $'HALL 4 1 0\n0 19 DROP1 0 0 : 0\nEND 1\n' \
+    "trace: standard input: packets 1, delivered 0, lost 1 (DROP1 1, $none" from "$folder/lost.sheet" --summary
+head -c 51 examples/small.sheet >"$folder/none.sheet"
+printf '\0\0\0\0' >>"$folder/none.sheet"
+expect "a summary where there is no packet" 0 $'HALL 4 1 0\nEND 0\n' \
+    "trace: standard input: packets 0, delivered 0, lost 0 (DROP1 0, $none" from "$folder/none.sheet" --summary
+expect "a summary of several sheets, one of them refused" 1 "$refused$large" \
+    "== examples/unknown-code.sheet"$'\n'"$told== examples/large.sheet"$'\n'"trace: examples/large.sheet: $summary" \
+    "$command" --summary examples/unknown-code.sheet examples/large.sheet
 
 # The shells and the versions of awk that are here.
-both="== examples/large.sheet"$'\n'"== examples/unknown-code.sheet"$'\n'"$told"
-under() { "$@" bin/trace examples/large.sheet examples/unknown-code.sheet; }
+both="== examples/large.sheet"$'\n'"trace: examples/large.sheet: $summary== examples/unknown-code.sheet"$'\n'"$told"
+under() { "$@" bin/trace --lost --summary examples/large.sheet examples/unknown-code.sheet; }
 full_under() { "$@" bin/trace "$folder/largest.sheet" >/dev/full; }
 closed_under() { "$@" bin/trace <&-; }
 for shell in dash bash "bash --posix" "busybox sh"; do
     read -r -a by <<<"$shell"
     command -v "${by[0]}" >/dev/null 2>&1 || continue
-    expect "the command under $shell" 1 "$large$refused" "$both" under "${by[@]}"
+    expect "the command under $shell" 1 "$lost$refused" "$both" under "${by[@]}"
     expect "all $packets lines under $shell" 0 "$many" "" "${by[@]}" bin/trace "$folder/largest.sheet"
     expect "a full standard output under $shell" 2 "" "$unwritten No space left on device"$'\n' full_under "${by[@]}"
     expect "a closed standard input under $shell" 2 "" $'trace: standard input: cannot be read: it is closed\n' closed_under "${by[@]}"
@@ -231,7 +252,7 @@ for awk in mawk gawk original-awk busybox; do
     mkdir "$folder/$awk"
     ln -s "$(command -v "$awk")" "$folder/$awk/awk"
     by=(env PATH="$folder/$awk:$PATH")
-    expect "the command with the awk of $awk" 1 "$large$refused" "$both" under "${by[@]}"
+    expect "the command with the awk of $awk" 1 "$lost$refused" "$both" under "${by[@]}"
     expect "all $packets lines with the awk of $awk" 0 "$many" "" "${by[@]}" bin/trace "$folder/largest.sheet"
     expect "a full standard output with the awk of $awk" 2 "" "$unwritten No space left on device"$'\n' full_under "${by[@]}"
 done
