@@ -209,6 +209,14 @@ expect "another folder and a name with a space" 0 "$small" "" in_folder "$comman
 expect "a name that begins with a dash" 1 "$refused" "trace: ./-sheet: $words" in_folder "$command" ./-sheet
 expect "a name that begins with a dash, behind --" 1 "$refused" "trace: -sheet: $words" in_folder "$command" -- -sheet
 expect "the command by a relative path" 0 "$small" "" bash -c 'cd examples && ../bin/trace small.sheet'
+mkdir "$folder/links"
+ln -s "$command" "$folder/links/by its path"
+ln -s "../links/by its path" "$folder/links/by a link"
+ln -s "$PWD/bin" "$folder/links/bin"
+expect "the command by a symbolic link to its path" 0 "$small" "" "$folder/links/by its path" examples/small.sheet
+expect "the command by a symbolic link to a link" 0 "$small" "" "$folder/links/by a link" examples/small.sheet
+expect "the command by a symbolic link to its folder" 0 "$small" "" "$folder/links/bin/trace" examples/small.sheet
+expect "the command by a symbolic link in the path" 0 "$small" "" env PATH="$folder/links:$PATH" "by a link" examples/small.sheet
 
 # The options.
 usage=$("$command" --help && printf x); usage=${usage%x}
