@@ -1,11 +1,11 @@
 #!/usr/bin/env bash
 # The command bin/trace: each example against its expected text, exit statuses, standard error, standard input, several sheets, options,
-# refusals in words, what cannot be read or written, sheets of the greatest lengths, and the first use. Its last line adds up
+# refusals in words, what cannot be read or written, sheets of the greatest lengths, and when the program is built. Its last line adds up
 # the tests.
 set -euo pipefail
 cd "$(dirname "$0")/.."
 
-# The command builds the program where that is missing.
+# The command builds the program where that is missing or older than its sources.
 bin/trace examples/small.sheet >/dev/null || { echo "the program cannot be run"; exit 1; }
 
 folder=$(mktemp -d)
@@ -288,29 +288,62 @@ rm -r "$copy/target"
 
 # The first use, in a copy without the program: a stand-in for the prover puts the program there, or there is no prover.
 mkdir -p "$folder/tools"
-for tool in sh awk cat cp dirname mkdir od sed tail; do ln -s "$(command -v "$tool")" "$folder/tools/$tool"; done
+for tool in sh awk cat cp date dirname find head mkdir od sed tail touch; do ln -s "$(command -v "$tool")" "$folder/tools/$tool"; done
 sheet=$PWD/examples/small.sheet
 first() { PATH="$folder/tools" "$copy/bin/trace" "$@"; }
-missing="trace: the program is not built, and the Rattle toolchain (rt) is not installed"$'\n'
-expect "the first use without the toolchain" 2 "" "$missing" first "$sheet"
+yet="trace: the program is not built yet"
+lacking="and the Rattle toolchain (rt) is not installed"$'\n'
+expect "the first use without the toolchain" 2 "" "$yet, $lacking" first "$sheet"
 # The stand-in reads what it is given, so that a sheet on standard input would be lost, and then runs the given lines.
 prover() { # LINES
     printf '#!/bin/sh\n[ "$*" = "check trace" ] || exit 1\ncat >/dev/null\necho "trace proved"\n%s\n' "$1" >"$folder/tools/rt"
     chmod +x "$folder/tools/rt"
 }
 put="mkdir -p target/bin && cp '$PWD/target/bin/trace' target/bin/trace"
-built="trace: building the program, once"$'\n'"trace proved"$'\n'
+builds="it is now proved and built, which may take about five minutes"$'\n'"trace proved"$'\n'
 cannot="trace: the program could not be built"$'\n'
 prover "$put"
-expect "the first use builds the program and prints the trace alone" 0 "$small" "$built" first "$sheet"
+expect "the first use builds the program and prints the trace alone" 0 "$small" "$yet: $builds" first "$sheet"
 expect "the second use builds nothing" 0 "$small" "" first "$sheet"
 rm -r "$copy/target"
 first_from() { first - <"$1"; }
-expect "the first use with a sheet on standard input" 0 "$small" "$built" first_from "$sheet"
+expect "the first use with a sheet on standard input" 0 "$small" "$yet: $builds" first_from "$sheet"
 
+# A program that is older than one of its sources; the program itself is as old as all of them but the one.
+sources="crates.txt crates/trace/src/main.rt crates/forward/specs/Steps.antt crates/forward/proofs/step/Proof.antt"
+for source in $sources; do
+    mkdir -p "$copy/$(dirname "$source")"
+    touch "$copy/$source"
+done
+change() { # SOURCE
+    find "$copy/crates" "$copy/crates.txt" "$copy/target/bin/trace" -exec touch -t 200001010000 {} +
+    touch -t 200101010000 "$copy/$1"
+}
+for source in $sources; do
+    change "$source"
+    expect "a program that is older than $source is built again" 0 "$small" \
+        "trace: the program is older than $source: $builds" first "$sheet"
+    expect "a program that was built again for $source is not built twice" 0 "$small" "" first "$sheet"
+done
+main=crates/trace/src/main.rt
+older="trace: the program is older than $main"
+change "$main"
+prover ""
+expect "a program that the prover finds unchanged" 0 "$small" "$older: $builds" first "$sheet"
+expect "a program that the prover found unchanged is not built twice" 0 "$small" "" first "$sheet"
+change "$main"
+prover "$put; touch $main"
+expect "a source that changes while the program is built" 0 "$small" "$older: $builds" first "$sheet"
+expect "a source that changed while the program was built is seen by the next use" 0 "$small" "$older: $builds" first "$sheet"
+prover "exit 1"
+expect "a program that cannot be built again" 2 "" "$older: $builds$cannot" first "$sheet"
+rm "$folder/tools/rt"
+expect "an older program without the toolchain" 2 "" "$older, $lacking" first "$sheet"
 rm -r "$copy/target"
 prover "exit 1"
-expect "a program that cannot be built" 2 "" "$built$cannot" first "$sheet"
+expect "a program that cannot be built" 2 "" "$yet: $builds$cannot" first "$sheet"
+prover "exit 0"
+expect "a prover that leaves no program" 2 "" "$yet: $builds$cannot" first "$sheet"
 
 echo "$passed passed, $failed failed"
 [ "$failed" -eq 0 ]
