@@ -45,17 +45,11 @@ struct step {
     uint32_t ending, next, dst, has_proxy, proxy, retry, ttl, reroutes;
 };
 
-/* The word at an offset of an answer. */
-static uint32_t word_at(const uint8_t *room, size_t at)
-{
-    return (uint32_t)room[at] << 24 | (uint32_t)room[at + 1] << 16 | (uint32_t)room[at + 2] << 8 | (uint32_t)room[at + 3];
-}
-
 /* Ends the program where a call refused. */
 static void need(const char *call, uint32_t refusal)
 {
     if (refusal != TBEXLUM_ANSWERED) {
-        printf("%s refused: %" PRIu32 "\n", call, refusal);
+        printf("%s refused: %" PRIu32 ", %s\n", call, refusal, tbexlum_refusal_text(refusal));
         exit(EXIT_FAILURE);
     }
 }
@@ -83,16 +77,16 @@ static struct header read_header(const struct frame *frame)
     uint8_t room[TBEXLUM_READ_ROOM];
     struct header says;
     need("tbexlum_read_header", tbexlum_read_header(frame->bytes, frame->length, room, sizeof room));
-    says.bytes = word_at(room, TBEXLUM_READ_HEADER_BYTES_AT);
-    says.protocol = word_at(room, TBEXLUM_READ_PROTOCOL_AT);
-    says.payload_length = word_at(room, TBEXLUM_READ_PAYLOAD_LENGTH_AT);
-    says.identification = word_at(room, TBEXLUM_READ_IDENTIFICATION_AT);
-    says.retry = word_at(room, TBEXLUM_READ_RETRY_AT);
-    says.ttl = word_at(room, TBEXLUM_READ_TTL_AT);
-    says.source = word_at(room, TBEXLUM_READ_SOURCE_AT);
-    says.destination = word_at(room, TBEXLUM_READ_DESTINATION_AT);
-    says.has_proxy = word_at(room, TBEXLUM_READ_HAS_PROXY_AT);
-    says.proxy = word_at(room, TBEXLUM_READ_PROXY_AT);
+    says.bytes = tbexlum_word_at(room, TBEXLUM_READ_HEADER_BYTES_AT);
+    says.protocol = tbexlum_word_at(room, TBEXLUM_READ_PROTOCOL_AT);
+    says.payload_length = tbexlum_word_at(room, TBEXLUM_READ_PAYLOAD_LENGTH_AT);
+    says.identification = tbexlum_word_at(room, TBEXLUM_READ_IDENTIFICATION_AT);
+    says.retry = tbexlum_word_at(room, TBEXLUM_READ_RETRY_AT);
+    says.ttl = tbexlum_word_at(room, TBEXLUM_READ_TTL_AT);
+    says.source = tbexlum_word_at(room, TBEXLUM_READ_SOURCE_AT);
+    says.destination = tbexlum_word_at(room, TBEXLUM_READ_DESTINATION_AT);
+    says.has_proxy = tbexlum_word_at(room, TBEXLUM_READ_HAS_PROXY_AT);
+    says.proxy = tbexlum_word_at(room, TBEXLUM_READ_PROXY_AT);
     return says;
 }
 
@@ -104,14 +98,14 @@ static struct step take_step(uint32_t uid, const struct header *says, const uint
     struct step step;
     need("tbexlum_step", tbexlum_step(N, K, B, uid, says->destination, says->has_proxy, says->proxy, (uint8_t)says->retry,
                                       (uint8_t)says->ttl, part, CELL_CODES, room, sizeof room));
-    step.ending = word_at(room, TBEXLUM_STEP_ENDING_AT);
-    step.next = word_at(room, TBEXLUM_STEP_NEXT_AT);
-    step.dst = word_at(room, TBEXLUM_STEP_DST_AT);
-    step.has_proxy = word_at(room, TBEXLUM_STEP_HAS_PROXY_AT);
-    step.proxy = word_at(room, TBEXLUM_STEP_PROXY_AT);
-    step.retry = word_at(room, TBEXLUM_STEP_RETRY_AT);
-    step.ttl = word_at(room, TBEXLUM_STEP_TTL_AT);
-    step.reroutes = word_at(room, TBEXLUM_STEP_REROUTES_AT);
+    step.ending = tbexlum_word_at(room, TBEXLUM_STEP_ENDING_AT);
+    step.next = tbexlum_word_at(room, TBEXLUM_STEP_NEXT_AT);
+    step.dst = tbexlum_word_at(room, TBEXLUM_STEP_DST_AT);
+    step.has_proxy = tbexlum_word_at(room, TBEXLUM_STEP_HAS_PROXY_AT);
+    step.proxy = tbexlum_word_at(room, TBEXLUM_STEP_PROXY_AT);
+    step.retry = tbexlum_word_at(room, TBEXLUM_STEP_RETRY_AT);
+    step.ttl = tbexlum_word_at(room, TBEXLUM_STEP_TTL_AT);
+    step.reroutes = tbexlum_word_at(room, TBEXLUM_STEP_REROUTES_AT);
     return step;
 }
 
@@ -126,8 +120,8 @@ static void print_frame(const struct frame *frame)
 
 static void print_header(const struct header *says)
 {
-    printf("%" PRIu32 " bytes, protocol %" PRIu32 ", payload %" PRIu32 " bytes, identification %" PRIu32 ", retry %" PRIu32 ", TTL %" PRIu32
-           ", %" PRIu32 " to %" PRIu32 "\n",
+    printf("%" PRIu32 " bytes, protocol %" PRIu32 ", payload %" PRIu32 " bytes, identification %" PRIu32 ", retry %" PRIu32
+           ", TTL %" PRIu32 ", %" PRIu32 " to %" PRIu32 "\n",
            says->bytes, says->protocol, says->payload_length, says->identification, says->retry, says->ttl, says->source,
            says->destination);
 }
@@ -138,34 +132,28 @@ static void print_route(uint32_t x, uint32_t y)
     uint8_t room[TBEXLUM_ROUTE_ROOM];
     size_t at = TBEXLUM_ROUTE_UIDS_AT;
     need("tbexlum_route", tbexlum_route(N, K, B, x, y, room, sizeof room));
-    printf("%" PRIu32, word_at(room, at));
-    while (word_at(room, at) != y) {
+    printf("%" PRIu32, tbexlum_word_at(room, at));
+    while (tbexlum_word_at(room, at) != y) {
         at += TBEXLUM_WORD;
-        printf(" %" PRIu32, word_at(room, at));
+        printf(" %" PRIu32, tbexlum_word_at(room, at));
     }
     printf("\n");
 }
 
-static const char *name_of(uint32_t ending)
+/* The port of a server that leads to its neighbour: the lowest level whose DCell holds both. DCell(i) is t(i) uids in a row. */
+static uint32_t port_to(uint32_t uid, uint32_t neighbour)
 {
-    switch (ending) {
-    case TBEXLUM_FORWARDED:
-        return "FORWARDED";
-    case TBEXLUM_DROP_TTL:
-        return "DROP1";
-    case TBEXLUM_DROP_ROUTE:
-        return "DROP2";
-    case TBEXLUM_DROP_RETRY:
-        return "DROP3";
-    case TBEXLUM_DROP_PROXY:
-        return "DROP4";
-    default:
-        return "DELIVERED";
+    uint32_t size = N;
+    uint32_t level = 0;
+    while (uid / size != neighbour / size) {
+        size *= size + 1;
+        level++;
     }
+    return level;
 }
 
 /* Forwards a frame from its source until it ends: each server reads the frame that came and sends on the packet that its step answers.
- * Prints each frame sent, then source, destination, ending, links, reroutes and the uids passed. */
+ * Prints each frame sent, then what became of the packet and the uids passed. */
 static void forward(const struct frame *first, const uint8_t *hall_table)
 {
     static struct frame came;
@@ -191,13 +179,14 @@ static void forward(const struct frame *first, const uint8_t *hall_table)
         says.retry = step.retry;
         says.ttl = step.ttl;
         build(&sent, &says, came.bytes + says.bytes);
-        printf("at %" PRIu32 " to %" PRIu32 ": ", passed[links], step.next);
+        printf("at %" PRIu32 " by port %" PRIu32 " to %" PRIu32 ": ", passed[links], port_to(passed[links], step.next), step.next);
         print_frame(&sent);
         came = sent;
         links++;
         passed[links] = step.next;
     }
-    printf("%" PRIu32 " %" PRIu32 " %s %" PRIu32 " %" PRIu32 " :", says.source, says.destination, name_of(step.ending), links, reroutes);
+    printf("%" PRIu32 " to %" PRIu32 ": %s; links %" PRIu32 ", reroutes %" PRIu32 ", by", says.source, says.destination,
+           tbexlum_ending_text(step.ending), links, reroutes);
     for (i = 0; i <= links; i++) {
         printf(" %" PRIu32, passed[i]);
     }

@@ -124,7 +124,8 @@ extern "C" {
 uint32_t tbexlum_route(uint32_t n, uint32_t k, uint32_t b, uint32_t x, uint32_t y, uint8_t *room, size_t room_length);
 
 /* The header of a frame, read and checked.
- * Refusals in order: SHORT_FRAME (20 bytes), BAD_HEADER, SHORT_FRAME (DHL), BAD_CHECKSUM, BAD_ADDRESS, SHORT_FRAME (payload), SHORT_ROOM. */
+ * Refusals in order: SHORT_FRAME (20 bytes), BAD_HEADER, SHORT_FRAME (DHL), BAD_CHECKSUM, BAD_ADDRESS, SHORT_FRAME (payload),
+ * SHORT_ROOM. */
 uint32_t tbexlum_read_header(const uint8_t *frame, size_t frame_length, uint8_t *room, size_t room_length);
 
 /* A header written to the start of the room, checksum included: 20 bytes where has_proxy is 0, else 24.
@@ -139,6 +140,75 @@ uint32_t tbexlum_write_header(uint8_t protocol, uint16_t payload_length, uint32_
  * Refusals in order: BAD_HALL, BAD_LENGTH, BAD_UID (uid, dst, proxy), BAD_HEADER (retry), SHORT_ROOM. */
 uint32_t tbexlum_step(uint32_t n, uint32_t k, uint32_t b, uint32_t uid, uint32_t dst, uint32_t has_proxy, uint32_t proxy,
                       uint8_t retry, uint8_t ttl, const uint8_t *table, size_t table_length, uint8_t *room, size_t room_length);
+
+/* Helpers. They are compiled with the driver and call nothing. */
+
+/* The word at an offset of an answer or of a header. */
+static inline uint32_t tbexlum_word_at(const uint8_t *bytes, size_t at)
+{
+    uint32_t word = bytes[at];
+    word = word << 8 | bytes[at + 1];
+    word = word << 8 | bytes[at + 2];
+    return word << 8 | bytes[at + 3];
+}
+
+/* Writes a word at an offset. */
+static inline void tbexlum_put_word(uint8_t *bytes, size_t at, uint32_t word)
+{
+    size_t i;
+    for (i = TBEXLUM_WORD; i > 0; i--) {
+        bytes[at + i - 1] = word & 255u;
+        word >>= 8;
+    }
+}
+
+/* What a returned number says; one text for all numbers that these calls never return. */
+static inline const char *tbexlum_refusal_text(uint32_t number)
+{
+    switch (number) {
+    case TBEXLUM_ANSWERED:
+        return "answered, not refused";
+    case TBEXLUM_REFUSED_BAD_HALL:
+        return "n, k or b is outside its range";
+    case TBEXLUM_REFUSED_BAD_UID:
+        return "a uid is not below t(k)";
+    case TBEXLUM_REFUSED_BAD_LENGTH:
+        return "the table is not t(b) * (k + 1) bytes long";
+    case TBEXLUM_REFUSED_SHORT_ROOM:
+        return "the room is shorter than the answer";
+    case TBEXLUM_REFUSED_SHORT_FRAME:
+        return "the frame is shorter than 20 bytes, than DHL says, or than the payload length says";
+    case TBEXLUM_REFUSED_BAD_HEADER:
+        return "version, DHL, flags, PF or retry is outside the rule";
+    case TBEXLUM_REFUSED_BAD_CHECKSUM:
+        return "the checksum is not the one worked out";
+    case TBEXLUM_REFUSED_BAD_ADDRESS:
+        return "an address is of the wrong kind, or a broadcast has a proxy";
+    default:
+        return "not a number that these calls return";
+    }
+}
+
+/* What an ending says; one text for all numbers that are no ending. */
+static inline const char *tbexlum_ending_text(uint32_t number)
+{
+    switch (number) {
+    case TBEXLUM_FORWARDED:
+        return "forwarded";
+    case TBEXLUM_DROP_TTL:
+        return "drop 1: the TTL is 0";
+    case TBEXLUM_DROP_ROUTE:
+        return "drop 2: there is no route inside the cell";
+    case TBEXLUM_DROP_RETRY:
+        return "drop 3: the retry is spent";
+    case TBEXLUM_DROP_PROXY:
+        return "drop 4: there is no proxy to be had";
+    case TBEXLUM_DELIVERED:
+        return "delivered";
+    default:
+        return "not an ending of a step";
+    }
+}
 
 #ifdef __cplusplus
 }

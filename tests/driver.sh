@@ -40,6 +40,11 @@ done < <(constants)
 while read -r name; do
     constants | grep -q "^$name " || fail "$manual names $name, which $header has not"
 done < <(grep -o 'TBEXLUM_[A-Z_]*[A-Z]' "$manual" | sort -u)
+diff <(grep -o 'tbexlum_[a-z_]*(' "$header" | sort -u) <(grep -o 'tbexlum_[a-z_]*(' "$manual" | sort -u) ||
+    fail "$header and $manual have not the same functions"
+while read -r name text; do
+    sed 's/×/*/g' "$manual" | grep -F "| \`$name\` | $text |" >/dev/null || fail "$manual has no row with '$text' for $name"
+done < <(sed -n 's/^ *case \(TBEXLUM_[A-Z_]*\):$/\1/; T; N; s/\n *return "\(.*\)";$/ \1/p' "$header")
 while read -r bytes; do
     grep -qF "$bytes" "$manual" || fail "$manual has not the worked bytes $bytes"
 done < <(sed -n 's/^static const char worked_[a-z_]*\[\] = "\(.*\)";$/\1/p' tests/driver_test.c)
@@ -50,11 +55,14 @@ passes() { # NAME VALUE WRONG
     rm -f "$folder/tried/test"
     sed "s/^#define $1 $2u\$/#define $1 $3u/" "$header" >"$folder/tried/tbexlum.h" &&
         gcc -std=c11 -DRANDOM_QUESTIONS=400u -I"$folder/tried" tests/driver_test.c "$library" -o "$folder/tried/test" &&
-        "$folder/tried/test" >/dev/null 2>&1
+        { "$folder/tried/test" >/dev/null; } 2>/dev/null
 }
 passes TBEXLUM_ANSWERED 0 0 || fail "the test does not pass with the right header"
 while read -r name value; do
-    if passes "$name" "$value" $((value + 1)); then fail "the test does not see a wrong $name"; fi
+    wrong=$((value + 1))
+    # The numbers that have a text are cases of one switch, so a wrong one must be none of the others.
+    if grep -q "case $name:" "$header"; then wrong=$((value + 16)); fi
+    if passes "$name" "$value" "$wrong"; then fail "the test does not see a wrong $name"; fi
     [ -x "$folder/tried/test" ] || fail "the test is not built with a wrong $name, so it has seen nothing"
 done < <(constants)
 echo "$(constants | wc -l) constants, each in the manual, each seen by the test when it is wrong"

@@ -1,5 +1,5 @@
-/* Shows that the library does what tbexlum.h says: every constant, each refusal and its order, each ending, rooms of every length, and
- * nothing read or written but what was lent.
+/* Shows that the library does what tbexlum.h says: every constant, each refusal and its order, each ending, rooms of every length,
+ * nothing read or written but what was lent, and the helpers of the header.
  *
  * What is lent lies between pages that can't be touched, first at the front of its pages and then at their back, over two paints. So a
  * byte read or written outside kills the program, and a byte written beside the answer shows. Valid C11 and C++17.
@@ -109,20 +109,7 @@ static uint32_t random_number(uint32_t small)
     return random_below(small);
 }
 
-/* ---- Words and bytes ---- */
-
-static uint32_t word_at(const uint8_t *bytes, size_t at)
-{
-    return (uint32_t)bytes[at] << 24 | (uint32_t)bytes[at + 1] << 16 | (uint32_t)bytes[at + 2] << 8 | (uint32_t)bytes[at + 3];
-}
-
-static void put_word(uint8_t *bytes, size_t at, uint32_t word)
-{
-    bytes[at] = (uint8_t)(word >> 24);
-    bytes[at + 1] = (uint8_t)(word >> 16);
-    bytes[at + 2] = (uint8_t)(word >> 8);
-    bytes[at + 3] = (uint8_t)word;
-}
+/* ---- Bytes ---- */
 
 /* The bytes of a hex text, and how many. */
 static size_t bytes_of(const char *hex, uint8_t *bytes)
@@ -382,7 +369,7 @@ static int answers_uids(struct question q, const uint32_t *uids, size_t count)
     uint8_t answer[ANY_ROOM];
     size_t i;
     for (i = 0; i < count; i++) {
-        put_word(answer, TBEXLUM_ROUTE_UIDS_AT + i * TBEXLUM_WORD, uids[i]);
+        tbexlum_put_word(answer, TBEXLUM_ROUTE_UIDS_AT + i * TBEXLUM_WORD, uids[i]);
     }
     return answers(q, answer, count * TBEXLUM_WORD);
 }
@@ -392,16 +379,16 @@ static int answers_fields(struct question q, const struct question *says, uint32
 {
     uint8_t answer[ANY_ROOM];
     memset(answer, 0, sizeof answer);
-    put_word(answer, TBEXLUM_READ_HEADER_BYTES_AT, header_bytes);
-    put_word(answer, TBEXLUM_READ_PROTOCOL_AT, says->protocol);
-    put_word(answer, TBEXLUM_READ_PAYLOAD_LENGTH_AT, says->payload_length);
-    put_word(answer, TBEXLUM_READ_IDENTIFICATION_AT, says->identification);
-    put_word(answer, TBEXLUM_READ_RETRY_AT, says->retry);
-    put_word(answer, TBEXLUM_READ_TTL_AT, says->ttl);
-    put_word(answer, TBEXLUM_READ_SOURCE_AT, says->from);
-    put_word(answer, TBEXLUM_READ_DESTINATION_AT, says->to);
-    put_word(answer, TBEXLUM_READ_HAS_PROXY_AT, says->has_proxy != 0);
-    put_word(answer, TBEXLUM_READ_PROXY_AT, says->has_proxy != 0 ? says->proxy : 0);
+    tbexlum_put_word(answer, TBEXLUM_READ_HEADER_BYTES_AT, header_bytes);
+    tbexlum_put_word(answer, TBEXLUM_READ_PROTOCOL_AT, says->protocol);
+    tbexlum_put_word(answer, TBEXLUM_READ_PAYLOAD_LENGTH_AT, says->payload_length);
+    tbexlum_put_word(answer, TBEXLUM_READ_IDENTIFICATION_AT, says->identification);
+    tbexlum_put_word(answer, TBEXLUM_READ_RETRY_AT, says->retry);
+    tbexlum_put_word(answer, TBEXLUM_READ_TTL_AT, says->ttl);
+    tbexlum_put_word(answer, TBEXLUM_READ_SOURCE_AT, says->from);
+    tbexlum_put_word(answer, TBEXLUM_READ_DESTINATION_AT, says->to);
+    tbexlum_put_word(answer, TBEXLUM_READ_HAS_PROXY_AT, says->has_proxy != 0);
+    tbexlum_put_word(answer, TBEXLUM_READ_PROXY_AT, says->has_proxy != 0 ? says->proxy : 0);
     return answers(q, answer, TBEXLUM_READ_ROOM);
 }
 
@@ -413,14 +400,14 @@ static int answers_step(struct question q, uint32_t ending, uint32_t next, struc
 {
     uint8_t answer[ANY_ROOM];
     memset(answer, 0, sizeof answer);
-    put_word(answer, TBEXLUM_STEP_ENDING_AT, ending);
-    put_word(answer, TBEXLUM_STEP_NEXT_AT, next);
-    put_word(answer, TBEXLUM_STEP_DST_AT, p.dst);
-    put_word(answer, TBEXLUM_STEP_HAS_PROXY_AT, p.has_proxy);
-    put_word(answer, TBEXLUM_STEP_PROXY_AT, p.proxy);
-    put_word(answer, TBEXLUM_STEP_RETRY_AT, p.retry);
-    put_word(answer, TBEXLUM_STEP_TTL_AT, p.ttl);
-    put_word(answer, TBEXLUM_STEP_REROUTES_AT, reroutes);
+    tbexlum_put_word(answer, TBEXLUM_STEP_ENDING_AT, ending);
+    tbexlum_put_word(answer, TBEXLUM_STEP_NEXT_AT, next);
+    tbexlum_put_word(answer, TBEXLUM_STEP_DST_AT, p.dst);
+    tbexlum_put_word(answer, TBEXLUM_STEP_HAS_PROXY_AT, p.has_proxy);
+    tbexlum_put_word(answer, TBEXLUM_STEP_PROXY_AT, p.proxy);
+    tbexlum_put_word(answer, TBEXLUM_STEP_RETRY_AT, p.retry);
+    tbexlum_put_word(answer, TBEXLUM_STEP_TTL_AT, p.ttl);
+    tbexlum_put_word(answer, TBEXLUM_STEP_REROUTES_AT, reroutes);
     return answers(q, answer, TBEXLUM_STEP_ROOM);
 }
 
@@ -513,7 +500,7 @@ static size_t route_uids(uint32_t n, uint32_t k, uint32_t x, uint32_t y, uint8_t
     if (tbexlum_route(n, k, 0, x, y, room, TBEXLUM_ROUTE_ROOM) != TBEXLUM_ANSWERED) {
         return 0;
     }
-    while (count <= TBEXLUM_MOST_UIDS && word_at(room, TBEXLUM_ROUTE_UIDS_AT + (count - 1) * TBEXLUM_WORD) != y) {
+    while (count <= TBEXLUM_MOST_UIDS && tbexlum_word_at(room, TBEXLUM_ROUTE_UIDS_AT + (count - 1) * TBEXLUM_WORD) != y) {
         count++;
     }
     return count;
@@ -538,8 +525,8 @@ static void route_ends(void)
         for (y = 0; y < 42; y++) {
             size_t count = route_uids(2, 2, x, y, room);
             DEMAND(count >= 1 && count <= 8);
-            DEMAND(word_at(room, TBEXLUM_ROUTE_UIDS_AT) == x);
-            DEMAND(word_at(room, count * TBEXLUM_WORD) == HUGE_WORD);
+            DEMAND(tbexlum_word_at(room, TBEXLUM_ROUTE_UIDS_AT) == x);
+            DEMAND(tbexlum_word_at(room, count * TBEXLUM_WORD) == HUGE_WORD);
         }
     }
     for (i = 0; i < RANDOM_QUESTIONS; i++) {
@@ -549,8 +536,8 @@ static void route_ends(void)
         y = random_below(servers_of(n, 3));
         count = route_uids(n, 3, x, y, room);
         DEMAND(count >= 1 && count <= TBEXLUM_MOST_UIDS);
-        DEMAND(word_at(room, TBEXLUM_ROUTE_UIDS_AT) == x);
-        DEMAND(word_at(room, count * TBEXLUM_WORD) == HUGE_WORD);
+        DEMAND(tbexlum_word_at(room, TBEXLUM_ROUTE_UIDS_AT) == x);
+        DEMAND(tbexlum_word_at(room, count * TBEXLUM_WORD) == HUGE_WORD);
     }
 }
 
@@ -805,10 +792,10 @@ static void read_zero_due(void)
 static struct question read_addresses_question(uint8_t *frame, uint32_t source, uint32_t destination, uint32_t has_proxy, uint32_t proxy)
 {
     size_t length = has_proxy ? bytes_of(worked_proxy_frame, frame) : bytes_of(worked_frame, frame);
-    put_word(frame, 12, source);
-    put_word(frame, 16, destination);
+    tbexlum_put_word(frame, 12, source);
+    tbexlum_put_word(frame, 16, destination);
     if (has_proxy) {
-        put_word(frame, 20, proxy);
+        tbexlum_put_word(frame, 20, proxy);
     }
     seal(frame, length);
     return read_question(frame, length);
@@ -870,13 +857,13 @@ static void read_order(void)
 static size_t header_of(const struct question *says, uint8_t *frame)
 {
     size_t words = says->has_proxy != 0 ? 6 : 5;
-    put_word(frame, 0, 1u << 28 | (uint32_t)words << 24 | (uint32_t)says->protocol << 16 | says->payload_length);
-    put_word(frame, 4, says->identification);
-    put_word(frame, 8, (uint32_t)says->retry << 28 | (uint32_t)(words - 5) << 24 | (uint32_t)says->ttl << 16);
-    put_word(frame, 12, says->from);
-    put_word(frame, 16, says->to);
+    tbexlum_put_word(frame, 0, 1u << 28 | (uint32_t)words << 24 | (uint32_t)says->protocol << 16 | says->payload_length);
+    tbexlum_put_word(frame, 4, says->identification);
+    tbexlum_put_word(frame, 8, (uint32_t)says->retry << 28 | (uint32_t)(words - 5) << 24 | (uint32_t)says->ttl << 16);
+    tbexlum_put_word(frame, 12, says->from);
+    tbexlum_put_word(frame, 16, says->to);
     if (says->has_proxy != 0) {
-        put_word(frame, 20, says->proxy);
+        tbexlum_put_word(frame, 20, says->proxy);
     }
     seal(frame, 4 * words);
     return 4 * words;
@@ -1139,13 +1126,14 @@ static int passes(uint32_t b, const uint8_t *hall_table, uint32_t dst, uint8_t r
             != TBEXLUM_ANSWERED) {
             return 0;
         }
-        made += word_at(room, TBEXLUM_STEP_REROUTES_AT);
-        if (word_at(room, TBEXLUM_STEP_ENDING_AT) != (i + 1 < count ? TBEXLUM_FORWARDED : ending)) {
+        made += tbexlum_word_at(room, TBEXLUM_STEP_REROUTES_AT);
+        if (tbexlum_word_at(room, TBEXLUM_STEP_ENDING_AT) != (i + 1 < count ? TBEXLUM_FORWARDED : ending)) {
             return 0;
         }
-        uid = word_at(room, TBEXLUM_STEP_NEXT_AT);
-        p = packet_of(word_at(room, TBEXLUM_STEP_DST_AT), word_at(room, TBEXLUM_STEP_HAS_PROXY_AT), word_at(room, TBEXLUM_STEP_PROXY_AT),
-                      word_at(room, TBEXLUM_STEP_RETRY_AT), word_at(room, TBEXLUM_STEP_TTL_AT));
+        uid = tbexlum_word_at(room, TBEXLUM_STEP_NEXT_AT);
+        p = packet_of(tbexlum_word_at(room, TBEXLUM_STEP_DST_AT), tbexlum_word_at(room, TBEXLUM_STEP_HAS_PROXY_AT),
+                      tbexlum_word_at(room, TBEXLUM_STEP_PROXY_AT), tbexlum_word_at(room, TBEXLUM_STEP_RETRY_AT),
+                      tbexlum_word_at(room, TBEXLUM_STEP_TTL_AT));
     }
     return made == reroutes;
 }
@@ -1275,6 +1263,120 @@ static void any_question(void)
     for (i = 0; i < 4; i++) {
         DEMAND(answered[i] > RANDOM_QUESTIONS / 80); /* the questions are worth asking */
     }
+}
+
+/* ---- The port to the next server ---- */
+
+/* The one server that is joined to a server by a link of this level, which is above 0. In their DCell, server p' of sub-cell p and server
+ * q' of sub-cell q, p < q, are joined when p' = q - 1 and q' = p. */
+static uint32_t neighbour_of(uint32_t n, uint32_t uid, uint32_t level)
+{
+    uint32_t sub = servers_of(n, level - 1);
+    uint32_t start = uid - uid % servers_of(n, level);
+    uint32_t cell = (uid - start) / sub;
+    uint32_t inside = (uid - start) % sub;
+    return inside < cell ? start + inside * sub + cell - 1 : start + (inside + 1) * sub + cell;
+}
+
+static void step_ports(void)
+{
+    uint32_t levels[4] = {0, 0, 0, 0};
+    uint32_t i;
+    for (i = 0; i < RANDOM_QUESTIONS; i++) {
+        struct question q = random_question(STEP);
+        uint8_t room[TBEXLUM_STEP_ROOM];
+        uint32_t next;
+        uint32_t port = 0;
+        if (ask(&q, room, sizeof room) != TBEXLUM_ANSWERED) {
+            continue;
+        }
+        if (q.k > 0 && random_below(4) != 0) { /* a link above the switch is seldom the first of a random route */
+            q.to = neighbour_of(q.n, q.from, 1 + random_below(q.k));
+            q.has_proxy = 0;
+            DEMAND(ask(&q, room, sizeof room) == TBEXLUM_ANSWERED);
+        }
+        if (tbexlum_word_at(room, TBEXLUM_STEP_ENDING_AT) != TBEXLUM_FORWARDED) {
+            continue;
+        }
+        next = tbexlum_word_at(room, TBEXLUM_STEP_NEXT_AT);
+        while (port < q.k && q.from / servers_of(q.n, port) != next / servers_of(q.n, port)) {
+            port++;
+        }
+        DEMAND(q.from != next && q.from / servers_of(q.n, port) == next / servers_of(q.n, port));
+        DEMAND(port == 0 || next == neighbour_of(q.n, q.from, port));
+        DEMAND(q.bytes[q.from % servers_of(q.n, q.b) * (q.k + 1) + port] == TBEXLUM_PORT_UP);
+        levels[port]++;
+    }
+    for (i = 0; i < 4; i++) {
+        DEMAND(levels[i] > RANDOM_QUESTIONS / 500); /* the questions are worth asking */
+    }
+}
+
+/* ---- The header's helpers ---- */
+
+static void helper_words(void)
+{
+    uint32_t i;
+    int back;
+    for (i = 0; i < 1000; i++) {
+        uint32_t word = i < EDGES ? edges[i] : random_word();
+        for (back = 0; back < 2; back++) {
+            size_t at = random_below(BEYOND);
+            uint8_t *bytes = part(&rooms, back, at + 4);
+            memcpy(rooms.bytes, paints[back], rooms.size);
+            tbexlum_put_word(bytes, at, word);
+            DEMAND(bytes[at] == word / 16777216u && bytes[at + 1] == word / 65536u % 256u);
+            DEMAND(bytes[at + 2] == word / 256u % 256u && bytes[at + 3] == word % 256u);
+            DEMAND(is_kept(paints[back], bytes + at, 4));
+            DEMAND(tbexlum_word_at(bytes, at) == word);
+        }
+    }
+}
+
+/* Whether `text` says each of the numbers below `count` by the text at its place, and all others, and those with none, by the last. */
+static int says_each(const char *(*text)(uint32_t), const char *const *texts, uint32_t count, const char *other)
+{
+    uint32_t number;
+    uint32_t i;
+    for (number = 0; number < 300 + EDGES; number++) {
+        i = number < 300 ? number : edges[number - 300];
+        if (strcmp(text(i), i < count && texts[i] != NULL ? texts[i] : other) != 0) {
+            return 0;
+        }
+    }
+    return 1;
+}
+
+static void helper_refusals(void)
+{
+    static const char *const texts[] = {
+        "answered, not refused",
+        "n, k or b is outside its range",
+        "a uid is not below t(k)",
+        NULL,
+        "the table is not t(b) * (k + 1) bytes long",
+        NULL,
+        "the room is shorter than the answer",
+        "the frame is shorter than 20 bytes, than DHL says, or than the payload length says",
+        "version, DHL, flags, PF or retry is outside the rule",
+        "the checksum is not the one worked out",
+        NULL,
+        "an address is of the wrong kind, or a broadcast has a proxy",
+    };
+    DEMAND(says_each(tbexlum_refusal_text, texts, sizeof texts / sizeof texts[0], "not a number that these calls return"));
+}
+
+static void helper_endings(void)
+{
+    static const char *const texts[] = {
+        "forwarded",
+        "drop 1: the TTL is 0",
+        "drop 2: there is no route inside the cell",
+        "drop 3: the retry is spent",
+        "drop 4: there is no proxy to be had",
+        "delivered",
+    };
+    DEMAND(says_each(tbexlum_ending_text, texts, sizeof texts / sizeof texts[0], "not an ending of a step"));
 }
 
 /* ---- Stack: calls on a painted stack, whose lowest changed byte tells how far they came ----
@@ -1421,11 +1523,16 @@ int main(int count, char **words)
     run("step: every TTL above 0 is lowered by one", step_ttl);
     run("step: refusals come in the order 1, 4, 2, 8, 6", step_order);
     run("step: the known journeys, step by step", step_journeys);
+    run("step: the port of the lowest level that holds both is up and leads to the next server", step_ports);
 
     run("all: any question gets a number of its call, and only the answer's bytes change", any_question);
 #ifndef __SANITIZE_ADDRESS__
     run("all: the stack stays within what docs/DRIVER.md says", stack_fits);
 #endif
+
+    run("helpers: words are big-endian, and nothing else is read or written", helper_words);
+    run("helpers: every refusal has its text, and every other number one text", helper_refusals);
+    run("helpers: every ending has its text, and every other number one text", helper_endings);
     printf("%d passed, %d failed\n", passed, failed);
     return failed == 0 ? EXIT_SUCCESS : EXIT_FAILURE;
 }
