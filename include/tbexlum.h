@@ -15,6 +15,12 @@
 extern "C" {
 #endif
 
+/* The version of the calls; bin/install writes it to tbexlum.pc. The major number rises where a driver written for the number before may
+ * have to be changed, and the minor number where something was only added. */
+
+#define TBEXLUM_VERSION_MAJOR 1u
+#define TBEXLUM_VERSION_MINOR 0u
+
 /* What a call returns. The numbers 3, 5 and 10 belong to calls that a driver is not offered; these four never return them. */
 
 /* Not refused: the answer stands in the room. */

@@ -1,6 +1,7 @@
 #!/usr/bin/env bash
-# The driver's example and test: built with gcc and g++, all warnings as errors, plain and under sanitizers, and run against the library.
-# Also holds header, test and docs/DRIVER.md against each other. Stops at the first failure; its last line adds up the programs run.
+# The driver's header, library, example and test: installed to a temporary prefix, built from there by pkg-config with all warnings as
+# errors, plain and under sanitizers, and run. Also holds header, test and docs/DRIVER.md against each other.
+# Stops at the first failure; its last line adds up what was passed.
 set -euo pipefail
 cd "$(dirname "$0")/.."
 
@@ -10,27 +11,114 @@ library=target/staticlib/libdriver.a
 header=include/tbexlum.h
 manual=docs/DRIVER.md
 [ -f "$library" ] || fail "$library is missing: 'rt staticlib driver' builds it"
-for compiler in gcc g++; do
-    command -v "$compiler" >/dev/null 2>&1 || fail "$compiler is not installed"
+for tool in gcc g++ pkg-config; do
+    command -v "$tool" >/dev/null 2>&1 || fail "$tool is not installed"
 done
 
 folder=$(mktemp -d)
 trap 'rm -rf "$folder"' EXIT
+unset DESTDIR
 
-warnings=(-Wall -Wextra -Wpedantic -Wconversion -Wsign-conversion -Wshadow -Werror)
-sanitizers=("-fsanitize=address,undefined" -fno-sanitize-recover=all)
-
-build() { # c11|c++17 SOURCE PROGRAM FLAG..
-    local compiler
-    case $1 in
-        c11) compiler=(gcc -std=c11 -x c) ;;
-        c++17) compiler=(g++ -std=c++17 -x c++) ;;
-    esac
-    "${compiler[@]}" -g "${warnings[@]}" "${@:4}" "$2" -x none "$library" -o "$3"
-}
+passed=0
+pass() { passed=$((passed + 1)); }
 
 # The names and values of the header's constants, a line each.
 constants() { sed -n 's/^#define \(TBEXLUM_[A-Z_]*\) \([0-9]*\)u$/\1 \2/p' "$header"; }
+constant() { constants | sed -n "s/^$1 //p"; } # NAME
+
+echo "== install"
+prefix="$folder/a prefix"
+files=(include/tbexlum.h lib/libtbexlum.a lib/pkgconfig/tbexlum.pc)
+
+# Whether a folder holds the installed files, and no other.
+holds() { # FOLDER
+    diff <(printf '%s\n' "${files[@]}") <(cd "$1" && find . -type f | sed 's|^\./||' | sort)
+}
+
+bin/install "$prefix" >"$folder/named"
+diff <(printf "$prefix/%s\n" "${files[@]}") "$folder/named" || fail "install does not name the files that it writes"
+holds "$prefix" || fail "install does not write its three files"
+cmp "$header" "$prefix/include/tbexlum.h"
+cmp "$library" "$prefix/lib/libtbexlum.a"
+
+export PKG_CONFIG_PATH="$prefix/lib/pkgconfig"
+version=$(constant TBEXLUM_VERSION_MAJOR).$(constant TBEXLUM_VERSION_MINOR)
+[ "$(pkg-config --modversion tbexlum)" = "$version" ] || fail "tbexlum.pc does not say version $version, as $header does"
+# What pkg-config tells, read as a shell reads it: the prefix holds a space.
+eval "installed=($(pkg-config --cflags --libs tbexlum))"
+pass
+
+DESTDIR="$folder/a stage" bin/install "$folder/later/" >/dev/null
+[ -e "$folder/later" ] && fail "install does not honour DESTDIR"
+holds "$folder/a stage$folder/later" || fail "install does not honour DESTDIR"
+grep -qxF "prefix=$folder/later" "$folder/a stage$folder/later/lib/pkgconfig/tbexlum.pc" || fail "tbexlum.pc does not say the prefix alone"
+pass
+
+# Whether an install ends with status 2 and says this.
+stops() { # TEXT COMMAND..
+    local status=0
+    "${@:2}" >/dev/null 2>"$folder/said" || status=$?
+    [ $status -eq 2 ] || fail "status $status, not 2: ${*:2}"
+    diff <(echo "install: $1") "$folder/said" || fail "not said: ${*:2}"
+}
+small() { (ulimit -f 1 && "$@"); } # no file may be longer than 1 KiB, as on a full disk
+mkdir -p "$folder/taken/include/tbexlum.h" "$folder/closed"
+touch "$folder/file" "$folder/closed/lib"
+stops "$folder/file/below/include/tbexlum.h: cannot be written" bin/install "$folder/file/below"
+stops "$folder/taken/include/tbexlum.h: cannot be written" bin/install "$folder/taken"
+stops "$folder/closed/lib/libtbexlum.a: cannot be written" bin/install "$folder/closed"
+stops "$folder/full/include/tbexlum.h: cannot be written" small bin/install "$folder/full"
+[ -z "$(find "$folder/full" -type f)" ] || fail "an install that could not write a file leaves a part of it"
+pass
+
+# A copy of the tree, in which rt is a stand-in: the library is built where it is missing or older than its code, and then no more.
+tree="$folder/tree"
+mkdir -p "$tree/crates" "$tree/target" "$folder/tools" "$folder/none"
+cp -R bin include examples docs crates.txt "$tree"
+for crate in driver $(sed -n 's/^driver://p' crates.txt); do
+    mkdir "$tree/crates/$crate"
+    cp -R "crates/$crate/src" "$tree/crates/$crate"
+done
+for tool in sh cat dirname find mkdir mv rm sed; do ln -s "$(command -v $tool)" "$folder/none/$tool"; done
+cat >"$folder/tools/rt" <<'END'
+#!/bin/sh
+[ "$*" = "staticlib driver" ] && [ -f crates.txt ] || exit 1
+mkdir -p target/staticlib && echo "$BUILT" >target/staticlib/libdriver.a
+END
+chmod +x "$folder/tools/rt"
+# Installs from the copy, with a stand-in that would build the library anew, and compares what is installed.
+installs() { # WANTED BUILT
+    BUILT=$2 PATH="$folder/tools:$PATH" "$tree/bin/install" "$folder/built" >/dev/null 2>&1 || fail "no library was built"
+    [ "$(cat "$folder/built/lib/libtbexlum.a")" = "$1" ] || fail "the library that is installed is not the $1 one"
+}
+stops "the static library has to be built, and the Rattle toolchain (rt) is not installed" \
+    env PATH="$folder/none" "$tree/bin/install" "$folder/x"
+mkdir "$tree/target/install.log"
+stops "$tree/target/install.log: cannot be written" env PATH="$folder/tools:$PATH" "$tree/bin/install" "$folder/x"
+rmdir "$tree/target/install.log"
+mkdir "$folder/broken"
+printf '#!/bin/sh\nexit 1\n' >"$folder/broken/rt"
+chmod +x "$folder/broken/rt"
+stops "building the static library: every function is proved first, which takes three to five minutes on two processors
+install: the static library could not be built: $tree/target/install.log tells why" \
+    env PATH="$folder/broken:$PATH" "$tree/bin/install" "$folder/x"
+installs first first
+installs first second
+touch -d "1 hour" "$tree/crates/hall/src/lib.rt"
+installs second second
+touch "$tree/crates/hall/src/lib.rt"
+pass
+
+echo "== the commands of $manual"
+cp "$library" "$tree/target/staticlib/libdriver.a"
+sources() { (cd "$tree" && find . -path ./target -prune -o -type f -print | sort); }
+sources >"$folder/before"
+awk '/^    / { print substr($0, 5); seen = 1; next } seen { exit }' "$manual" >"$folder/typed"
+(cd "$tree" && bash -e "$folder/typed" >"$folder/shown") || fail "the commands of $manual do not work"
+diff <(printf "$tree/target/installed/%s\n" "${files[@]}" && cat examples/driver.expected) "$folder/shown" ||
+    fail "the commands of $manual do not show examples/driver.expected"
+diff "$folder/before" <(sources) || fail "the commands of $manual leave a file among the sources"
+pass
 
 echo "== constants: $header, $manual"
 [ "$(constants | wc -l)" -eq "$(grep -c '^#define TBEXLUM_[A-Z_]* ' "$header")" ] || fail "$header has a constant that is no plain number"
@@ -45,6 +133,7 @@ diff <(grep -o 'tbexlum_[a-z_]*(' "$header" | sort -u) <(grep -o 'tbexlum_[a-z_]
 while read -r name text; do
     sed 's/×/*/g' "$manual" | grep -F "| \`$name\` | $text |" >/dev/null || fail "$manual has no row with '$text' for $name"
 done < <(sed -n 's/^ *case \(TBEXLUM_[A-Z_]*\):$/\1/; T; N; s/\n *return "\(.*\)";$/ \1/p' "$header")
+grep -qF "version $version" "$manual" || fail "$manual is not about version $version"
 while read -r bytes; do
     grep -qF "$bytes" "$manual" || fail "$manual has not the worked bytes $bytes"
 done < <(sed -n 's/^static const char worked_[a-z_]*\[\] = "\(.*\)";$/\1/p' tests/driver_test.c)
@@ -54,7 +143,8 @@ mkdir "$folder/tried"
 passes() { # NAME VALUE WRONG
     rm -f "$folder/tried/test"
     sed "s/^#define $1 $2u\$/#define $1 $3u/" "$header" >"$folder/tried/tbexlum.h" &&
-        gcc -std=c11 -DRANDOM_QUESTIONS=400u -I"$folder/tried" tests/driver_test.c "$library" -o "$folder/tried/test" &&
+        gcc -std=c11 -DRANDOM_QUESTIONS=400u "-DINSTALLED_VERSION=\"$version\"" -I"$folder/tried" tests/driver_test.c "$library" \
+            -o "$folder/tried/test" &&
         { "$folder/tried/test" >/dev/null; } 2>/dev/null
 }
 passes TBEXLUM_ANSWERED 0 0 || fail "the test does not pass with the right header"
@@ -66,25 +156,47 @@ while read -r name value; do
     [ -x "$folder/tried/test" ] || fail "the test is not built with a wrong $name, so it has seen nothing"
 done < <(constants)
 echo "$(constants | wc -l) constants, each in the manual, each seen by the test when it is wrong"
+pass
 
-runs=0
-for language in c11 c++17; do
-    for kind in plain sanitized; do
-        flags=(-O2 -Iinclude)
-        if [ $kind = sanitized ]; then flags+=("${sanitizers[@]}"); fi
+warnings=(-Wall -Wextra -Wpedantic -Wconversion -Wsign-conversion -Wshadow -Wundef -Wunused -Wcast-qual -Wswitch-default -Werror)
+sanitizers=("-fsanitize=address,undefined" -fno-sanitize-recover=all)
 
-        echo "== $language, $kind: the example"
-        build $language examples/driver.c "$folder/driver" "${flags[@]}"
-        "$folder/driver" >"$folder/driver.out"
-        diff examples/driver.expected "$folder/driver.out" || fail "the example's output is not examples/driver.expected"
-        runs=$((runs + 1))
+# Builds a source with what is installed, and nothing else of this tree.
+build() { # COMPILER SOURCE PROGRAM FLAG..
+    local language=(-std=c11 -x c)
+    case $1 in *++) language=(-std=c++17 -x c++) ;; esac
+    "$1" "${language[@]}" -g -O2 "${warnings[@]}" "-DINSTALLED_VERSION=\"$version\"" "${@:4}" "$2" -x none "${installed[@]}" -o "$3"
+}
 
-        echo "== $language, $kind: the test"
-        build $language tests/driver_test.c "$folder/driver_test" "${flags[@]}"
-        "$folder/driver_test" | tee "$folder/driver_test.out"
-        tail -n 1 "$folder/driver_test.out" | grep -qE '^[1-9][0-9]* passed, 0 failed$' || fail "the test did not pass"
-        runs=$((runs + 1))
-    done
+# Builds and runs the example and the test.
+try() { # COMPILER KIND FLAG..
+    echo "== $1, $2: the example"
+    build "$1" examples/driver.c "$folder/driver" "${@:3}"
+    "$folder/driver" >"$folder/driver.out"
+    diff examples/driver.expected "$folder/driver.out" || fail "the example's output is not examples/driver.expected"
+    pass
+
+    echo "== $1, $2: the test"
+    build "$1" tests/driver_test.c "$folder/driver_test" "${@:3}"
+    "$folder/driver_test" | tee "$folder/driver_test.out"
+    tail -n 1 "$folder/driver_test.out" | grep -qE '^[1-9][0-9]* passed, 0 failed$' || fail "the test did not pass"
+    pass
+}
+
+printf '#include <tbexlum.h>\nint main(void)\n{\n    return 0;\n}\n' >"$folder/alone.c"
+for compiler in gcc g++ clang clang++; do
+    if ! command -v "$compiler" >/dev/null 2>&1; then
+        echo "== $compiler is not installed, and not tried"
+        continue
+    fi
+    echo "== $compiler: the header alone"
+    case $compiler in
+        *++) build "$compiler" "$folder/alone.c" "$folder/alone" -Wold-style-cast -Wmissing-declarations ;;
+        *) build "$compiler" "$folder/alone.c" "$folder/alone" -Wmissing-prototypes -Wmissing-declarations ;;
+    esac
+    pass
+    try "$compiler" plain
+    case $compiler in g*) try "$compiler" sanitized "${sanitizers[@]}" ;; esac
 done
 
-echo "$runs passed, 0 failed"
+echo "$passed passed, 0 failed"

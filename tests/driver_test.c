@@ -3,7 +3,8 @@
  *
  * What is lent lies between pages that can't be touched, first at the front of its pages and then at their back, over two paints. So a
  * byte read or written outside kills the program, and a byte written beside the answer shows. Valid C11 and C++17.
- * Usage: driver_test [SEED]. Prints a line for each test, then `N passed, M failed`; exit status 1 where one failed. */
+ * Usage: driver_test [SEED]. Prints a line for each test, then `N passed, M failed`; exit status 1 where one failed.
+ * INSTALLED_VERSION is the version that pkg-config tells, as a string; where it is not defined, the version is not tested. */
 #ifndef _GNU_SOURCE
 #define _GNU_SOURCE /* MAP_ANONYMOUS, makecontext */
 #endif
@@ -1312,7 +1313,16 @@ static void step_ports(void)
     }
 }
 
-/* ---- The header's helpers ---- */
+/* ---- The header's version and helpers ---- */
+
+#ifdef INSTALLED_VERSION
+static void version_installed(void)
+{
+    char version[32];
+    snprintf(version, sizeof version, "%u.%u", TBEXLUM_VERSION_MAJOR, TBEXLUM_VERSION_MINOR);
+    DEMAND(strcmp(version, INSTALLED_VERSION) == 0);
+}
+#endif
 
 static void helper_words(void)
 {
@@ -1530,6 +1540,9 @@ int main(int count, char **words)
     run("all: the stack stays within what docs/DRIVER.md says", stack_fits);
 #endif
 
+#ifdef INSTALLED_VERSION
+    run("header: its version is the one that is installed", version_installed);
+#endif
     run("helpers: words are big-endian, and nothing else is read or written", helper_words);
     run("helpers: every refusal has its text, and every other number one text", helper_refusals);
     run("helpers: every ending has its text, and every other number one text", helper_endings);
