@@ -1,6 +1,6 @@
 #!/usr/bin/env bash
 # The driver's header, library, example and test: installed to a temporary prefix, built from there by pkg-config with all warnings as
-# errors, plain and under sanitizers, and run. Also holds header, test and docs/DRIVER.md against each other.
+# errors, plain and under sanitizers, and run. Also holds header, library, test and docs/DRIVER.md against each other.
 # Stops at the first failure; its last line adds up what was passed.
 set -euo pipefail
 cd "$(dirname "$0")/.."
@@ -156,6 +156,21 @@ while read -r name value; do
     [ -x "$folder/tried/test" ] || fail "the test is not built with a wrong $name, so it has seen nothing"
 done < <(constants)
 echo "$(constants | wc -l) constants, each in the manual, each seen by the test when it is wrong"
+pass
+
+echo "== the object code, as $manual says"
+readelf -h "$library" | grep -q 'Machine: *Advanced Micro Devices X86-64' || fail "it is not for x86-64"
+if readelf -rW "$library" | grep -o 'R_X86_64_[A-Z0-9_]*' | grep -vxE 'R_X86_64_(PC32|PLT32)'; then fail "it depends on its position"; fi
+if nm -u "$library" | grep ' U '; then fail "it needs a symbol"; fi
+calls() { sed -n 's/^uint32_t \(tbexlum_[a-z_]*\)(.*/\1/p' "$header" | sort; }
+diff <(calls) <(nm -g --defined-only "$library" | awk 'NF == 3 { print $3 }' | sort) || fail "it does not define the calls alone"
+if readelf -SW "$library" | sed 's/^ *\[ *[0-9]*\] *//' | awk '$7 ~ /W/ && $5 !~ /^0+$/' | grep .; then fail "it has writable data"; fi
+objdump -d "$library" | cut -f 3 >"$folder/instructions"
+grep -q '%xmm' "$folder/instructions" || fail "no instruction is seen"
+if grep -E '^[fv][a-z]|%(y|z)?mm[0-9]|%st' "$folder/instructions"; then fail "it uses other registers"; fi
+if grep -E '^(add|sub|mul|div|sqrt|min|max|cmp|u?comi|cvt)[a-z0-9]*[sp][sd] .*xmm' "$folder/instructions"; then
+    fail "it computes in floating point"
+fi
 pass
 
 warnings=(-Wall -Wextra -Wpedantic -Wconversion -Wsign-conversion -Wshadow -Wundef -Wunused -Wcast-qual -Wswitch-default -Werror)
