@@ -443,14 +443,7 @@ mod tests {
 
     #[test]
     fn a_packet_that_is_not_there_gets_3_and_a_refused_sheet_its_own_refusal() {
-        let refused = |refusal, place| SheetPacket {
-            refusal,
-            place,
-            source: 0,
-            dst: 0,
-            retry: 0,
-            ttl: 0,
-        };
+        let refused = SheetPacket::refused;
         assert_eq!(packet(&sample(1), 1), refused(3, 0));
         assert_eq!(packet(&sample(0), u32::MAX), refused(3, 0));
         assert_eq!(packet(&with(sample(1), 18, 7), 0), refused(5, 18));

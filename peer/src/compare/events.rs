@@ -37,29 +37,9 @@ pub enum Event {
     Spare { number: u32, bytes: isize },
 }
 
-/// What every comparison of steps has to meet.
-pub const STEP: &[Event] = &[
+/// What steps and journeys have to meet: first that a step forwards, then what both share, last the longest journeys.
+const ALL: &[Event] = &[
     Event::Ending(FORWARDED),
-    Event::Ending(DROP_TTL),
-    Event::Ending(DROP_NO_ROUTE),
-    Event::Ending(DROP_RETRY),
-    Event::Ending(DROP_NO_PROXY),
-    Event::Ending(DELIVERED),
-    Event::Reroutes(0),
-    Event::Reroutes(1),
-    Event::Reroutes(2),
-    Event::Set,
-    Event::Cleared,
-    Event::Arrived { k: 1, level: 1 },
-    Event::Arrived { k: 2, level: 1 },
-    Event::Arrived { k: 2, level: 2 },
-    Event::Arrived { k: 3, level: 1 },
-    Event::Arrived { k: 3, level: 2 },
-    Event::Arrived { k: 3, level: 3 },
-];
-
-/// What every comparison of journeys has to meet.
-pub const JOURNEY: &[Event] = &[
     Event::Ending(DROP_TTL),
     Event::Ending(DROP_NO_ROUTE),
     Event::Ending(DROP_RETRY),
@@ -79,6 +59,11 @@ pub const JOURNEY: &[Event] = &[
     Event::Longest(DROP_TTL),
     Event::Longest(DELIVERED),
 ];
+
+/// What every comparison of steps has to meet.
+pub const STEP: &[Event] = ALL.split_at(ALL.len() - 2).0;
+/// What every comparison of journeys has to meet.
+pub const JOURNEY: &[Event] = ALL.split_at(1).1;
 
 impl Display for Event {
     /// The event in the words of the rules.
