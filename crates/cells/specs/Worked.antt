@@ -2,7 +2,6 @@
 -- Section "The hall and its numbers".
 use mathlib.Core.Path.{_≡_, refl}
 use mathlib.Core.List.{[], _∷_}
-use Prim.Native.Nat.{ℕ}
 use Rattle.combine.specs.Tests.{allBelow}
 use Rattle.combine.specs.Lists.{upTo}
 use Rattle.hall.specs.declared.Hall.{Hall}

@@ -3,7 +3,7 @@ use mathlib.Core.Path.{_≡_, refl, sym, _∙_, ap}
 use mathlib.Core.Bool.{Bool, true, false, not, false≢true}
 use mathlib.Core.List.{List}
 use mathlib.Core.Logic.{⊎-elim}
-use Prim.Native.Nat.{ℕ, zero, suc, _+_, _-_, _<_, _≤_}
+use Prim.Native.Nat.{ℕ, suc, _+_, _-_, _<_, _≤_}
 use native.Mathlib.Nat.{eq-or-lt-of-le}
 use native.Mathlib.Numerals.{add-one}
 use native.Mathlib.Omega.{arith}
@@ -25,7 +25,7 @@ use Rattle.local.proofs.Distance.{local-bounded}
 use Rattle.local.proofs.Sizes.{size-fits, place-fits}
 use Rattle.forward.specs.declared.Candidate.{Candidate}
 use Rattle.forward.specs.declared.Candidate.the-variants.{At, Nothing}
-use Rattle.forward.specs.Seen.{Seen, seen}
+use Rattle.forward.specs.Seen.{Seen}
 use Rattle.forward.specs.Proxies.{isCandidate, bestBelow, orElse, firstFound, choice}
 use Rattle.forward.specs.Inside.{Here}
 use Rattle.forward.proofs.Chosen.{Nearest, Best, found, missing, best-found}

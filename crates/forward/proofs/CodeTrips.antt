@@ -1,16 +1,14 @@
 -- A journey as the code makes it: what is passed and counted so far, before what is left, is the whole journey.
 use mathlib.Core.Path.{_≡_, refl, sym, _∙_, ap}
-use mathlib.Core.Bool.{Bool, true, false}
+use mathlib.Core.Bool.{true, false}
 use mathlib.Core.List.{List, [], _∷_, _++_, append-assoc}
-use Prim.Native.Nat.{ℕ, zero, suc, _+_, _-_, _*_, _≤_, _<_}
+use Prim.Native.Nat.{ℕ, zero, suc, _+_, _-_, _*_, _≤_}
 use native.Mathlib.Omega.{arith}
 use lib.Dec.{eqb}
 use lib.ListN.{length, set, replicate, length-append}
 use lib.Seq.{set-at}
 use borrow.Author.Tests.{eq-eqb, ne-eqb}
-use Rattle.combine.specs.Tests.{pick}
 use Rattle.hall.specs.declared.Hall.{Hall}
-use Rattle.hall.specs.Halls.{valid, servers}
 use Rattle.hall.proofs.Growth.{valid-known}
 use Rattle.ports.specs.Codes.{part}
 use Rattle.ports.specs.Answers.{partOf}
@@ -27,7 +25,7 @@ use Rattle.forward.specs.Answers.{most-passed, passed, journeyFrom}
 use Rattle.forward.specs.Inside.{Here, Sound, Departing}
 use Rattle.forward.proofs.Trips.{tidied-retry, step-sends}
 use Rattle.forward.proofs.Steps.{reroutes-few}
-use Rattle.forward.proofs.Hops.{Fits, Forwards, step-forwards}
+use Rattle.forward.proofs.Hops.{step-forwards}
 use Rattle.forward.proofs.Sight.{seen-links}
 use Rattle.forward.proofs.CodeSteps.{tidied-sound}
 

@@ -1,6 +1,5 @@
 -- A journey: the step repeated over the hall table, each step seeing only the part of its own DCell(b), recursive on the TTL.
 -- Section "One forwarding step", its last sentence.
-use mathlib.Core.Bool.{Bool, true, false}
 use mathlib.Core.List.{List, [], _∷_}
 use Prim.Native.Nat.{ℕ, zero, suc, _+_}
 use lib.Dec.{eqb}

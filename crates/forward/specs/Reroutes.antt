@@ -6,7 +6,6 @@ use Prim.Native.Nat.{ℕ, _+_, _-_, _≤_, _<_}
 use Rattle.hall.specs.declared.Hall.{Hall}
 use Rattle.hall.specs.Cells.{neighbour}
 use Rattle.local.specs.Local.{none, cellSize, placeOf, firstOf}
-use Rattle.forward.specs.declared.Packet.{Packet}
 use Rattle.forward.specs.declared.Step.{Step}
 use Rattle.forward.specs.Packets.{forwarded}
 use Rattle.forward.specs.Seen.{Seen}

@@ -1,7 +1,7 @@
 -- Worked steps, computed from the definitions: n = 4, k = 1, b = 0, at server 0. The bench's journeys stand in the table of `promises`.
 -- Section "One forwarding step".
 use mathlib.Core.Path.{_≡_, refl}
-use mathlib.Core.Bool.{Bool, true, false}
+use mathlib.Core.Bool.{true}
 use mathlib.Core.List.{List, [], _∷_}
 use Prim.Native.Nat.{ℕ}
 use Rattle.combine.specs.Tests.{anyBelow}
@@ -17,7 +17,6 @@ use Rattle.route.specs.Answers.{firstAmong, firstAbove, firstLink}
 use Rattle.local.specs.Lowest.{lowestFrom}
 use Rattle.local.specs.Local.{cellSize, placeOf, firstOf, linked, distancesFrom, distance, nearer, hop}
 use Rattle.forward.specs.declared.Packet.{Packet}
-use Rattle.forward.specs.declared.Step.{Step}
 use Rattle.forward.specs.Packets.{forwarded, drop-route, delivered, isArrived, goal}
 use Rattle.forward.specs.Seen.{usable}
 use Rattle.forward.specs.Proxies.{isCandidate, bestBelow, firstFound, choice}

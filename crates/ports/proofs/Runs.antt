@@ -1,9 +1,9 @@
 -- Laws of runs: the run of a hall table for a DCell has the hall table's byte at each port of the DCell, and numbers shift by whole
 -- DCells, so its links are usable by the run exactly where they are by the hall table.
-use mathlib.Core.Path.{_≡_, refl, sym, _∙_, ap}
-use mathlib.Core.Bool.{Bool, true, false, not}
-use mathlib.Core.List.{List, [], _∷_}
-use Prim.Native.Nat.{ℕ, zero, suc, min, _+_, _-_, _*_, _/_, _%_, _≤_, _<_}
+use mathlib.Core.Path.{_≡_, refl, _∙_, ap}
+use mathlib.Core.Bool.{Bool, true, false}
+use mathlib.Core.List.{List, []}
+use Prim.Native.Nat.{ℕ, zero, suc, _+_, _-_, _*_, _/_, _%_, _≤_, _<_}
 use native.Mathlib.Nat.{mod-lt, div-add-mod', mul-add-div-right, mul-add-mod-self-right}
 use native.Mathlib.Omega.{arith}
 use lib.Dec.{eqb, leb, ltb}
@@ -11,14 +11,14 @@ use lib.Arith.{digits-lt}
 use lib.ListN.{length, getD, take, drop, length-take, length-drop, List·getD-eq-default}
 use lib.Seq.{getD-take, getD-drop}
 use borrow.Author.Tests.{eqb-true, eq-eqb, ltb-true, ltb-false, le-leb}
-use Rattle.combine.specs.Tests.{pick, both, either}
+use Rattle.combine.specs.Tests.{pick}
 use Rattle.combine.proofs.Tests.{cases, both-ways}
 use Rattle.hall.specs.declared.Hall.{Hall}
 use Rattle.hall.specs.Cells.{t, cell, same, neighbour, neighbourOver}
-use Rattle.hall.specs.Halls.{servers}
 use Rattle.hall.proofs.Cells.{t-pos}
-use Rattle.ports.specs.Codes.{codeOf, up, tableLength, cellLength, run, SameUps, EveryUp}
+use Rattle.ports.specs.Codes.{codeOf, up, cellLength, run, SameUps, EveryUp}
 use Rattle.ports.specs.Links.{onSwitch, bothUp, wired, joined}
+use Rattle.ports.proofs.Tables.{both-alone}
 use Rattle.ports.proofs.Parts.{Sound, run-within, t-whole}
 
 -- a run is as long as its DCell asks, where the hall table is sound
@@ -116,10 +116,6 @@ joined-run h table pos i u (suc j) x y li lk bx by =
       run-up h table i u y (suc j) by lk,
     )
 
-both-whole : (b : Bool) → both b true ≡ b
-both-whole true = refl
-both-whole false = refl
-
 -- where every port is up, so is each port of each server
 pub every-up : (h : Hall) (table : List ℕ) (count : ℕ) → EveryUp table → length table ≡ count * (h .k + 1) → (x p : ℕ) → x < count → p ≤ h .k → up h table x p ≡ true
 unfolding EveryUp up codeOf
@@ -132,9 +128,9 @@ pub joined-every : (h : Hall) (table : List ℕ) (count : ℕ) → EveryUp table
     → joined h table l x y ≡ wired (h .n) l x y
 unfolding joined wired bothUp
 joined-every h table count a long zero x y l bx by =
-    rw (every-up h table count a long x 0 bx (omega arith), every-up h table count a long y 0 by (omega arith)) (both-whole (onSwitch (h .n) x y))
+    rw (every-up h table count a long x 0 bx (omega arith), every-up h table count a long y 0 by (omega arith)) (both-alone (onSwitch (h .n) x y))
 joined-every h table count a long (suc j) x y l bx by =
-    rw (joined-every h table count a long j x y (omega arith) bx by, every-up h table count a long x (suc j) bx l, every-up h table count a long y (suc j) by l, both-whole (eqb (neighbour (h .n) j x) y))
+    rw (joined-every h table count a long j x y (omega arith) bx by, every-up h table count a long x (suc j) bx l, every-up h table count a long y (suc j) by l, both-alone (eqb (neighbour (h .n) j x) y))
 
 -- a run of a table whose every port is up
 pub run-at : (h : Hall) (table : List ℕ) (i u v : ℕ) → v < cellLength h i → getD (run h table i u) v 0 ≡ getD table (cell (h .n) i u * cellLength h i + v) 0

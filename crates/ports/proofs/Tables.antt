@@ -1,17 +1,17 @@
 -- Laws of codes: a port is up exactly when its code is 1, what the check finds is the first unknown code, and tables with code 1 at the
 -- same places have the same ports up.
-use mathlib.Core.Path.{_≡_, refl, sym, _∙_, ap}
+use mathlib.Core.Path.{_≡_, refl, sym, _∙_}
 use mathlib.Core.Bool.{Bool, true, false}
 use mathlib.Core.List.{List, [], _∷_}
 use Prim.Native.Nat.{ℕ, zero, suc, _+_, _-_, _*_, _≤_, _<_}
 use native.Mathlib.Numerals.{add-one}
 use native.Mathlib.Omega.{arith}
-use lib.Dec.{eqb, leb}
+use lib.Dec.{leb}
 use lib.ListN.{length, getD, take, drop, length-drop, drop-of-length-le}
 use lib.Seq.{drop-cons, drop-drop}
 use borrow.Author.Tests.{eqb-true, eq-eqb, leb-true, le-leb, lt-leb}
 use Rattle.combine.specs.Tests.{pick, both}
-use Rattle.combine.proofs.Tests.{cases, never, both-left, both-right, both-true, both-false}
+use Rattle.combine.proofs.Tests.{cases, both-left, both-right, both-true, both-false}
 use Rattle.hall.specs.declared.Hall.{Hall}
 use Rattle.ports.specs.Codes.{known, allKnown, firstUnknown, codeOf, up, SameUps}
 
@@ -84,7 +84,7 @@ both-joined : (a b c : Bool) → both a (both b c) ≡ both (both a b) c
 both-joined true b c = refl
 both-joined false b c = refl
 
-both-alone : (a : Bool) → both a true ≡ a
+pub both-alone : (a : Bool) → both a true ≡ a
 both-alone true = refl
 both-alone false = refl
 

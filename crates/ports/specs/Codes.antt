@@ -1,7 +1,7 @@
 -- The port codes by name, which of them are known, and where a port's code stands in a table: the one place where a byte becomes "up".
 -- Section "Port codes".
 use mathlib.Core.Path.{_≡_}
-use mathlib.Core.Bool.{Bool, true, false}
+use mathlib.Core.Bool.{Bool, true}
 use mathlib.Core.List.{List, [], _∷_}
 use Prim.Native.Nat.{ℕ, suc, _+_, _*_, _<_}
 use lib.Dec.{eqb, leb}

@@ -1,7 +1,7 @@
 -- Worked values: known codes, and the ports of the night sheet's table, n = 4, k = 1, forty codes all 1 but 2 at the bytes 7 and 33.
 -- Section "Port codes" and "The night sheet".
 use mathlib.Core.Path.{_≡_, refl}
-use mathlib.Core.Bool.{Bool, true, false}
+use mathlib.Core.Bool.{true, false}
 use mathlib.Core.List.{List, [], _∷_, _++_}
 use Prim.Native.Nat.{ℕ}
 use lib.ListN.{replicate}

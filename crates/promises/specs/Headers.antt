@@ -5,7 +5,6 @@ use mathlib.Core.Path.{_≡_}
 use mathlib.Core.List.{List, _++_}
 use Prim.Native.Nat.{ℕ, _*_, _≤_, _<_}
 use lib.ListN.{length, take, drop}
-use Rattle.frame.specs.declared.Header.{Header}
 use Rattle.frame.specs.Reading.{readFrame, payloadOf}
 use Rattle.header.specs.declared.Fields.{Fields}
 use Rattle.header.specs.Writing.{countOf, writeRefusal, roomWritten, headerFor, fieldsOf}

@@ -1,88 +1,29 @@
 -- A sheet is accepted exactly where it holds what `Accepted` says: each field was read whole and sound, and nothing is left over.
 use mathlib.Core.Path.{_≡_, refl, sym, _∙_, ap}
-use mathlib.Core.Bool.{Bool, true, false, true≢false}
+use mathlib.Core.Bool.{true}
 use mathlib.Core.List.{List}
-use Prim.Native.Nat.{ℕ, zero, suc, _+_, _-_, _*_, _≤_, _<_}
+use Prim.Native.Nat.{ℕ, _+_, _*_, _≤_, _<_}
 use native.Mathlib.Omega.{arith}
-use lib.Dec.{eqb, leb, ltb}
-use lib.ListN.{length, getD}
+use lib.Dec.{eqb, ltb}
+use lib.ListN.{length}
 use borrow.Author.Tests.{eqb-true, eq-eqb, ltb-true, ltb-false, le-ltb}
 use Rattle.combine.specs.Tests.{both}
 use Rattle.combine.proofs.Tests.{cases, both-left, both-right}
 use Rattle.hall.specs.declared.Hall.{Hall}
 use Rattle.hall.specs.Halls.{nFits, kFits, bFits, valid, servers}
-use Rattle.hall.specs.Refusals.{bad-hall, bad-uid, bad-length, bad-code, bad-header, bad-sheet}
+use Rattle.hall.specs.Refusals.{bad-hall, bad-length, bad-code}
 use Rattle.ports.specs.Codes.{known, tableLength}
 use Rattle.sheet.specs.declared.Field.{Field}
 use Rattle.sheet.specs.declared.Field.the-variants.{Value, Refused}
-use Rattle.sheet.specs.declared.Sheet.{Sheet}
-use Rattle.sheet.specs.Formats.{Format, done, field, and-then, value, read}
-use Rattle.sheet.specs.Sheets.{longest, any, count, number-n, number-k, number-b, code, uid, retry, times, codes, packet, packets, tablesOf, nightSheet}
-use Rattle.sheet.specs.Answers.{hallOf, sheetOf, refusedAt, packetPlace}
+use Rattle.sheet.specs.Formats.{value, read}
+use Rattle.sheet.specs.Sheets.{longest, code, retry, codes, packet, packets, tablesOf, nightSheet}
+use Rattle.sheet.specs.Answers.{hallOf, sheetOf, packetPlace}
 use Rattle.sheet.specs.Accepted.{packetCountOf, PacketFits, Accepted}
-use Rattle.sheet.proofs.Reading.{placeOf, read-done, read-sound, read-wrong, read-cut, read-cases, field-read, field-sound, then-value, any-there, within}
-use Rattle.sheet.proofs.Sheets.{sheet-long, sheet-refused, sheet-surplus, sheet-accepted, sheet-read}
+use Rattle.sheet.proofs.Reading.{placeOf, read-done, field-read, field-sound, then-value, within}
+use Rattle.sheet.proofs.Sheets.{sheet-long, sheet-refused, sheet-surplus, sheet-read}
 use Rattle.sheet.proofs.Accepted.{then-read, field-then, then-sound, packet-read, packet-sound, times-width, times-each, times-all}
 use Rattle.sheet.proofs.Codes.{code-width}
-
--- a format whose refusals all have a number
-pub data Numbered : Format → Type 0 where
-  at-end : {v : ℕ} → Numbered (done v)
-  numbered : {width number : ℕ} {sound : ℕ → Bool} {next : ℕ → Format}
-      → ((v : ℕ) → sound v ≡ false → number ≡ 0 → ⊥) → ((v : ℕ) → Numbered (next v)) → Numbered (field width sound number next)
-
-numbered-then : {f : Format} {g : ℕ → Format} → Numbered f → ((v : ℕ) → Numbered (g v)) → Numbered (and-then f g)
-unfolding and-then
-numbered-then {f = done v} at-end k = k v
-numbered-then {f = field width sound number next} (numbered h r) k = numbered h (λ v. numbered-then (r v) k)
-
-numbered-field : (width : ℕ) (sound : ℕ → Bool) (number : ℕ) → (number ≡ 0 → ⊥) → Numbered (field width sound number done)
-numbered-field width sound number h = numbered (λ v e. h) (λ v. at-end)
-
-numbered-any : (width : ℕ) → Numbered (any width)
-numbered-any width = numbered (λ v e z. true≢false e) (λ v. at-end)
-
-numbered-times : (f : Format) → Numbered f → (so-many : ℕ) → Numbered (times so-many f)
-unfolding times
-numbered-times f n zero = at-end
-numbered-times f n (suc rest) = numbered-then n (λ v. numbered-times f n rest)
-
-numbered-packet : (limit : ℕ) → Numbered (packet limit)
-unfolding packet
-numbered-packet limit =
-    numbered-then (numbered-field 4 (λ v. ltb v limit) bad-uid (λ z. omega arith)) (λ source.
-    numbered-then (numbered-field 4 (λ v. ltb v limit) bad-uid (λ z. omega arith)) (λ dst.
-    numbered-then (numbered-field 1 (λ v. leb v 15) bad-header (λ z. omega arith)) (λ v. numbered-any 1)))
-
-numbered-tables : (h : Hall) → Numbered (tablesOf h)
-unfolding tablesOf
-numbered-tables h =
-    numbered-then (numbered-field 4 (λ v. eqb v (tableLength h)) bad-length (λ z. omega arith)) (λ bytes.
-    numbered-then (numbered-times code (numbered-field 1 known bad-code (λ z. omega arith)) bytes) (λ v.
-    numbered-then (numbered-any 4) (λ packetCount.
-    numbered-then (numbered-times (packet (servers h)) (numbered-packet (servers h)) packetCount) (λ v. at-end))))
-
-numbered-sheet : Numbered nightSheet
-unfolding nightSheet
-numbered-sheet =
-    numbered-then (numbered-field 4 (λ v. eqb v 3) bad-length (λ z. omega arith)) (λ v.
-    numbered-then (numbered-field 1 nFits bad-hall (λ z. omega arith)) (λ n.
-    numbered-then (numbered-field 1 (kFits n) bad-hall (λ z. omega arith)) (λ k.
-    numbered-then (numbered-field 1 (bFits k) bad-hall (λ z. omega arith)) (λ b.
-    numbered-tables (record { n = n; k = k; b = b })))))
-
--- its refusals are not 0
-read-numbered : (f : Format) → Numbered f → (s : List ℕ) (at number place : ℕ) → read f s at ≡ Refused number place → number ≡ 0 → ⊥
-read-numbered (done v) n s at number place e z =
-    let q : Value v at ≡ Refused number place = sym (read-done v s at) ∙ e in
-    let x : _≡_ {A = ℕ} 0 1 = cc q in omega arith
-read-numbered (field width sound told next) (numbered h r) s at number place e z =
-    read-cases s width sound told next at
-    (λ l t. read-numbered (next (value s at width)) (r (value s at width)) s (at + width) number place (sym (read-sound s width sound told next at l t) ∙ e) z)
-    (λ l t. let q : Refused told at ≡ Refused number place = sym (read-wrong s width sound told next at l t) ∙ e in
-    let x : told ≡ number = cc q in h (value s at width) t (x ∙ z))
-    (λ l. let q : Refused bad-sheet (length s) ≡ Refused number place = sym (read-cut s width sound told next at l) ∙ e in
-    let x : bad-sheet ≡ number = cc q in omega arith)
+use Rattle.sheet.proofs.Numbers.{refused-by-some}
 
 -- an accepted sheet was read to its end
 pub accepted-read : (s : List ℕ) → sheetOf s .refusal ≡ 0 → (length s ≤ longest) × ((v : ℕ) × (read nightSheet s 0 ≡ Value v (length s)))
@@ -93,7 +34,7 @@ accepted-read s ok =
   where
     by : length s ≤ longest → (r : Field) → read nightSheet s 0 ≡ r → (v : ℕ) × (read nightSheet s 0 ≡ Value v (length s))
     by h (Refused number place) e =
-        absurd (read-numbered nightSheet numbered-sheet s 0 number place e (sym (ap (λ x. x .refusal) (sheet-refused s h number place e)) ∙ ok))
+        absurd (refused-by-some s number place e (sym (ap (λ x. x .refusal) (sheet-refused s h number place e)) ∙ ok))
     by h (Value v end) e =
         cases (ltb end (length s))
         (λ q. absurd (omega (arith, ok, ap (λ x. x .refusal) (sheet-surplus s h v end e (ltb-true end (length s) q)))))

@@ -6,7 +6,6 @@ use lib.Dec.{eqb, leb, ltb}
 use lib.ListN.{length, take, drop}
 use Rattle.combine.specs.Tests.{pick}
 use Rattle.hall.specs.Refusals.{bad-range}
-use Rattle.sheet.specs.declared.Sheet.{Sheet}
 use Rattle.sheet.specs.Formats.{value}
 use Rattle.sheet.specs.Answers.{place-count, place-codes, sheetOf, packetPlace}
 use Rattle.sheetparts.specs.declared.SheetPacket.{SheetPacket}

@@ -6,9 +6,9 @@ use Prim.Native.Nat.{ℕ, suc, _+_, _-_, _≤_, _<_}
 use native.Mathlib.Omega.{arith}
 use borrow.Author.Needs.{needs}
 use Rattle.hall.proofs.Growth.{valid-known}
-use Rattle.local.specs.Local.{none, cellSize, placeOf}
+use Rattle.local.specs.Local.{cellSize, placeOf}
 use Rattle.forward.specs.declared.Candidate.the-variants.{Nothing}
-use Rattle.forward.specs.Seen.{Seen, seen}
+use Rattle.forward.specs.Seen.{seen}
 use Rattle.forward.specs.Proxies.{isCandidate, choice}
 use Rattle.forward.proofs.CodeChoice.{choiceFrom, choice-whole, found-here, found-later, found-never, count-is, count-fits, distance-is, distance-small, look-finds, look-passes, passed-more, none-behind, nearest-best, none-best}
 use Rattle.forward.proofs.choose.Statement.{statement}

@@ -1,5 +1,4 @@
 -- `forward::farthest` meets its contract: the most so far is at least each distance passed.
-use mathlib.Core.Path.{_≡_}
 use Prim.Native.Nat.{ℕ, _-_, _≤_, _<_}
 use native.Mathlib.Omega.{arith}
 use lib.ListN.{getD}

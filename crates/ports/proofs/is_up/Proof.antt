@@ -1,5 +1,4 @@
 -- `ports::is_up` meets its contract: a port above k is none, the index is the definition's and fits, and a byte that the table has not is no port.
-use mathlib.Core.Path.{refl}
 use native.Mathlib.Omega.{arith}
 use lib.ListN.{List·getD-eq-default}
 use borrow.Author.Needs.{needs}
