@@ -8,7 +8,7 @@ use Rattle.combine.specs.Tests.{anyBelow}
 use Rattle.combine.specs.Lists.{upTo}
 use Rattle.hall.specs.declared.Hall.{Hall}
 use Rattle.hall.specs.Cells.{t, cell, same, neighbour}
-use Rattle.hall.specs.Halls.{nFits, kFits, bFits, valid, servers}
+use Rattle.hall.specs.Halls.{hallOf, nFits, kFits, bFits, valid, servers}
 use Rattle.hall.specs.Refusals.{refusal}
 use Rattle.ports.specs.Codes.{codeOf, up, tableLength}
 use Rattle.ports.specs.Links.{onSwitch, bothUp, joined}
@@ -16,7 +16,7 @@ use Rattle.search.specs.Rounds.{new, mark, marks, reachedCount, lastRound}
 use Rattle.broadcast.specs.Broadcasts.{scopeFits, scopeSize, firstIn, linked, rounds, broadcastRefusal, broadcastOf, roomOf}
 
 ring : Hall
-ring = record { n = 2; k = 1; b = 0 }
+ring = hallOf 2 1 0
 
 every : List ℕ
 every = replicate 12 1

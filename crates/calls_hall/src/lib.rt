@@ -6,7 +6,7 @@ ghost use Rattle.cells.specs.Answers.{uidOf, tupleOf, cellAround, neighbourOf, 
 ghost use Rattle.route.specs.Answers.{routeBetween};
 ghost use Rattle.ports.specs.Answers.{checkOf};
 ghost use Rattle.hall.specs.Rooms.{told, written};
-ghost use Rattle.rooms.specs.Numbers.{hallOf};
+ghost use Rattle.hall.specs.Halls.{hallOf};
 ghost use Rattle.calls_hall.specs.Outcomes.{ofSizes, ofUid, ofTuple, ofCell, ofNeighbour, ofLink, ofRoute, ofPart};
 use hall::Hall;
 use rooms::tell;

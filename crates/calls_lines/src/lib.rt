@@ -4,7 +4,7 @@ ghost use Rattle.sheet.specs.Answers.{sheetOf};
 ghost use Rattle.report.specs.Texts.{hallLine, refusedLine, endLine, packetLine};
 ghost use Rattle.report.specs.Rooms.{writtenOf, roomOf};
 ghost use Rattle.lines.specs.Traces.{openingText, journeyText, journeyRefusal, unlessWritten, unlessRoom, pieceOf, roomPiece};
-ghost use Rattle.rooms.specs.Numbers.{hallOf};
+ghost use Rattle.hall.specs.Halls.{hallOf};
 ghost use Rattle.calls_lines.specs.Outcomes.{reportOf, endOf, nextTold, endTold};
 use hall::Hall;
 use report::PacketReport;

@@ -1,6 +1,5 @@
 -- Each answer about a packet as a refusal's number and its other values in order.
 -- Sections "Local distance", "One forwarding step", "Broadcast" and "Frame header".
-use mathlib.Core.Bool.{not}
 use mathlib.Core.List.{List, [], _∷_}
 use Prim.Native.Nat.{ℕ}
 use lib.Dec.{eqb}
@@ -8,7 +7,6 @@ use Rattle.combine.specs.Tests.{pick}
 use Rattle.hall.specs.declared.Hall.{Hall}
 use Rattle.local.specs.declared.Distances.{Distances}
 use Rattle.local.specs.declared.NextHop.{NextHop}
-use Rattle.forward.specs.declared.Packet.{Packet}
 use Rattle.forward.specs.declared.Journey.{Journey}
 use Rattle.broadcast.specs.declared.Broadcast.{Broadcast}
 use Rattle.broadcast.specs.Broadcasts.{broadcastOf, roomOf}
@@ -37,10 +35,6 @@ roundsTold h table source scope rounds room =
 -- a frame's payload, or the frame's refusal
 abbrev pub ofPayload : List ℕ → Outcome
 ofPayload frame = (readFrame frame .refusal, payloadOf frame)
-
--- the packet of these numbers; there is a proxy where its flag is not 0
-abbrev pub packetOf : ℕ → ℕ → ℕ → ℕ → ℕ → Packet
-packetOf dst flag proxy retry ttl = record { dst = dst; «has_proxy» = not (eqb flag 0); proxy = proxy; retry = retry; ttl = ttl }
 
 -- the uids that a journey passed, and its counts
 abbrev pub ofPassed : Journey → Outcome

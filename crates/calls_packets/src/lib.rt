@@ -1,12 +1,13 @@
 // The calls about a packet's way for a caller outside of Rattle, on plain numbers and slices.
 ghost use mathlib.Core.Path.{_≡_};
 ghost use Rattle.local.specs.Answers.{distancesOf, nextHopOf};
+ghost use Rattle.forward.specs.Packets.{packetOf};
 ghost use Rattle.forward.specs.Answers.{journeyOf};
 ghost use Rattle.broadcast.specs.Broadcasts.{broadcastOf};
 ghost use Rattle.frame.specs.Reading.{nextIdentification};
 ghost use Rattle.hall.specs.Rooms.{told, written};
-ghost use Rattle.rooms.specs.Numbers.{hallOf};
-ghost use Rattle.calls_packets.specs.Outcomes.{ofDistances, ofOrigin, ofNextHop, ofBroadcast, roundsTold, ofPayload, packetOf, ofPassed, ofCounts};
+ghost use Rattle.hall.specs.Halls.{hallOf};
+ghost use Rattle.calls_packets.specs.Outcomes.{ofDistances, ofOrigin, ofNextHop, ofBroadcast, roundsTold, ofPayload, ofPassed, ofCounts};
 use forward::Packet;
 use hall::Hall;
 use rooms::tell;

@@ -9,7 +9,7 @@ ghost use Rattle.frame.specs.Addresses.{addressesFit};
 ghost use Rattle.frame.specs.Checksum.{folded};
 ghost use Rattle.sheet.specs.Formats.{wordAt};
 ghost use Rattle.hall.specs.Rooms.{told, written};
-ghost use Rattle.rooms.specs.Numbers.{hallOf};
+ghost use Rattle.hall.specs.Halls.{hallOf};
 ghost use Rattle.calls_parts.specs.Outcomes.{ofFirstLink};
 use hall::Hall;
 use rooms::tell;

@@ -7,15 +7,15 @@ use Rattle.combine.specs.Lists.{upTo}
 use Rattle.hall.specs.declared.Hall.{Hall}
 use Rattle.hall.specs.Refusals.{refusal}
 use Rattle.hall.specs.Cells.{t, g, cell, sub, port, end, neighbour}
-use Rattle.hall.specs.Halls.{nFits, kFits, bFits, valid, servers}
+use Rattle.hall.specs.Halls.{hallOf, nFits, kFits, bFits, valid, servers}
 use Rattle.hall.specs.Tuples.{entry, limit, uidUpTo, entryFits, tupleFits, entryAt}
 use Rattle.cells.specs.Answers.{uidOf, tupleOf, cellAround, neighbourOf, linkBetween}
 
 abbrev two : Hall
-two = record { n = 2; k = 2; b = 0 }
+two = hallOf 2 2 0
 
 abbrev four : Hall
-four = record { n = 4; k = 1; b = 0 }
+four = hallOf 4 1 0
 
 -- [1,1,0] is 8; place 0 holds a0
 eight : uidOf two (0 ∷ 1 ∷ 1 ∷ 0 ∷ []) ≡ record { refusal = 0; uid = 8 }

@@ -6,18 +6,12 @@ use Prim.Native.Nat.{ℕ, _+_}
 use lib.ListN.{take}
 use lib.Dec.{eqb}
 use Rattle.combine.specs.Tests.{pick}
-use Rattle.hall.specs.declared.Hall.{Hall}
 use Rattle.route.specs.declared.Route.{Route}
 use Rattle.frame.specs.declared.Header.{Header}
 use Rattle.header.specs.declared.Fields.{Fields}
-use Rattle.forward.specs.declared.Packet.{Packet}
 use Rattle.forward.specs.declared.Step.{Step}
 use Rattle.hall.specs.Rooms.{Outcome}
 use Rattle.driver.specs.Words.{bytesOf}
-
--- the hall of three numbers
-abbrev pub hallOf : ℕ → ℕ → ℕ → Hall
-hallOf n k b = record { n = n; k = k; b = b }
 
 -- 1 for true, 0 for false
 abbrev pub flagOf : Bool → ℕ
@@ -60,7 +54,3 @@ ofStep a = (
       ∷ a .reroutes ∷ []
       ),
 )
-
--- the packet of these numbers; there is a proxy where its flag is not 0
-abbrev pub packetOf : ℕ → ℕ → ℕ → ℕ → ℕ → Packet
-packetOf dst flag proxy retry ttl = record { dst = dst; «has_proxy» = not (eqb flag 0); proxy = proxy; retry = retry; ttl = ttl }

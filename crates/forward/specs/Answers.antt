@@ -7,18 +7,15 @@ use lib.Dec.{leb, ltb}
 use lib.ListN.{length, replicate}
 use Rattle.combine.specs.Tests.{either}
 use Rattle.hall.specs.declared.Hall.{Hall}
-use Rattle.hall.specs.Refusals.{Ask, refusal, answered, bad-uid, bad-header}
+use Rattle.hall.specs.Refusals.{Ask, refusal, answered, bad-uid, bad-header, most-retry}
 use Rattle.hall.specs.Halls.{servers, asksHall, asksUid}
 use Rattle.ports.specs.Answers.{asksTable, asksCell}
 use Rattle.forward.specs.declared.Packet.{Packet}
 use Rattle.forward.specs.declared.Step.{Step}
 use Rattle.forward.specs.declared.Journey.{Journey}
 use Rattle.forward.specs.Steps.{step}
+use Rattle.forward.specs.Packets.{unproxied}
 use Rattle.forward.specs.Journeys.{Trip, trip}
-
--- the greatest retry
-abbrev pub most-retry : ℕ
-most-retry = 15
 
 -- the most uids that a journey passes
 abbrev pub most-passed : ℕ
@@ -37,7 +34,7 @@ asksPacket h me p = asksUid h me ∷ asksUid h (p .dst) ∷ asksProxy h p ∷ as
 
 -- no packet
 abbrev pub noPacket : Packet
-noPacket = record { dst = 0; «has_proxy» = false; proxy = 0; retry = 0; ttl = 0 }
+noPacket = unproxied 0 0 0
 
 -- one step at a server, over the lent table of its own DCell(b)
 abbrev pub stepOf : Hall → ℕ → Packet → List ℕ → Step

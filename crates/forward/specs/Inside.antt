@@ -10,7 +10,7 @@ use Rattle.combine.specs.Tests.{pick, either}
 use Rattle.hall.specs.declared.Hall.{Hall}
 use Rattle.hall.specs.Cells.{same}
 use Rattle.hall.specs.Halls.{valid, servers}
-use Rattle.hall.specs.Refusals.{Ask, bad-uid}
+use Rattle.hall.specs.Refusals.{Ask, bad-uid, most-retry}
 use Rattle.ports.specs.Codes.{tableLength, cellLength}
 use Rattle.route.specs.declared.Crossing.{Crossing}
 use Rattle.route.specs.declared.Crossing.the-variants.{Link, Nothing}
@@ -21,7 +21,7 @@ use Rattle.forward.specs.declared.Way.{Way}
 use Rattle.forward.specs.declared.Way.the-variants.{To, Closed, Unreached}
 use Rattle.forward.specs.Packets.{goal}
 use Rattle.forward.specs.Seen.{Seen}
-use Rattle.forward.specs.Answers.{most-retry, asksRetry}
+use Rattle.forward.specs.Answers.{asksRetry}
 
 -- the way to a local target: its local next hop where it can be reached
 unfoldable pub wayTo : Hall → Seen → ℕ → ℕ → Way

@@ -8,7 +8,7 @@ use Rattle.combine.specs.Tests.{anyBelow}
 use Rattle.combine.specs.Lists.{upTo}
 use Rattle.hall.specs.declared.Hall.{Hall}
 use Rattle.hall.specs.Cells.{t, cell, same, sub, port, end, near, far, neighbour, lowest}
-use Rattle.hall.specs.Halls.{nFits, kFits, bFits, valid, servers}
+use Rattle.hall.specs.Halls.{hallOf, nFits, kFits, bFits, valid, servers}
 use Rattle.ports.specs.Codes.{codeOf, up}
 use Rattle.ports.specs.Links.{onSwitch, bothUp, joined}
 use Rattle.search.specs.Rounds.{new, mark, marks}
@@ -17,13 +17,13 @@ use Rattle.route.specs.Answers.{firstAmong, firstAbove, firstLink}
 use Rattle.local.specs.Lowest.{lowestFrom}
 use Rattle.local.specs.Local.{cellSize, placeOf, firstOf, linked, distancesFrom, distance, nearer, hop}
 use Rattle.forward.specs.declared.Packet.{Packet}
-use Rattle.forward.specs.Packets.{forwarded, drop-route, delivered, isArrived, goal}
+use Rattle.forward.specs.Packets.{packetOf, forwarded, drop-route, delivered, isArrived, goal}
 use Rattle.forward.specs.Seen.{usable}
 use Rattle.forward.specs.Proxies.{isCandidate, bestBelow, firstFound, choice}
 use Rattle.forward.specs.Steps.{reachable, firstLevel, rerouteOn, stepFrom, stepOn, step}
 
 hall : Hall
-hall = record { n = 4; k = 1; b = 0 }
+hall = hallOf 4 1 0
 
 -- the table of servers 0 to 3: port 0 of server 1 and port 1 of server 3 are down
 table : List ℕ
@@ -31,7 +31,7 @@ table = 1 ∷ 1 ∷ 2 ∷ 1 ∷ 1 ∷ 1 ∷ 1 ∷ 2 ∷ []
 
 -- dst, proxy, retry, TTL
 packet : ℕ → ℕ → ℕ → ℕ → Packet
-packet dst proxy retry ttl = record { dst = dst; «has_proxy» = true; proxy = proxy; retry = retry; ttl = ttl }
+packet dst proxy retry ttl = packetOf dst 1 proxy retry ttl
 
 -- at its destination a packet is delivered at TTL 0, as it came
 at-dst : step hall table 0 (packet 0 1 5 0) ≡ record { refusal = 0; ending = delivered; next = 0; packet = packet 0 1 5 0; reroutes = 0 }

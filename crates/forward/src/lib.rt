@@ -31,11 +31,10 @@ use hall::Hall;
 use hall::refusals::BAD_HEADER;
 use hall::refusals::BAD_LENGTH;
 use hall::refusals::BAD_UID;
+use hall::refusals::MOST_RETRY;
 use local::NONE;
 use route::Crossing;
 
-// The greatest retry.
-pub const MOST_RETRY: u8 = 15;
 // The most uids that a journey passes.
 pub const MOST_PASSED: usize = 256;
 

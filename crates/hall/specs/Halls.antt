@@ -16,6 +16,10 @@ places = 4
 abbrev pub largest : ℕ
 largest = 27630792
 
+-- the hall of three numbers
+abbrev pub hallOf : ℕ → ℕ → ℕ → Hall
+hallOf n k b = record { n = n; k = k; b = b }
+
 -- n 2 to 8
 unfoldable pub nFits : ℕ → Bool
 nFits n = both (leb 2 n) (leb n 8)

@@ -38,6 +38,10 @@ short-frame = 7
 abbrev pub bad-header : ℕ
 bad-header = 8
 
+-- the greatest retry
+abbrev pub most-retry : ℕ
+most-retry = 15
+
 -- a checksum that is not the one worked out
 abbrev pub bad-checksum : ℕ
 bad-checksum = 9

@@ -5,19 +5,19 @@ use mathlib.Core.List.{[], _∷_}
 use Rattle.combine.specs.Lists.{upTo}
 use Rattle.hall.specs.Refusals.{refusal}
 use Rattle.hall.specs.Cells.{t}
-use Rattle.hall.specs.Halls.{nFits, kFits, bFits, valid, servers}
+use Rattle.hall.specs.Halls.{hallOf, nFits, kFits, bFits, valid, servers}
 use Rattle.hall.specs.Answers.{sizeAt, sizesOf}
 
 -- zeros above k
-sizes-of-two : sizesOf (record { n = 2; k = 2; b = 1 }) ≡ record { refusal = 0; t = 2 ∷ 6 ∷ 42 ∷ 0 ∷ [] }
+sizes-of-two : sizesOf (hallOf 2 2 1) ≡ record { refusal = 0; t = 2 ∷ 6 ∷ 42 ∷ 0 ∷ [] }
 unfolding refusal valid nFits kFits bFits upTo sizeAt t
 sizes-of-two = refl
 
 -- b is at most k
-no-such-hall : sizesOf (record { n = 2; k = 0; b = 1 }) ≡ record { refusal = 1; t = 0 ∷ 0 ∷ 0 ∷ 0 ∷ [] }
+no-such-hall : sizesOf (hallOf 2 0 1) ≡ record { refusal = 1; t = 0 ∷ 0 ∷ 0 ∷ 0 ∷ [] }
 unfolding refusal valid nFits kFits bFits
 no-such-hall = refl
 
-largest-hall : servers (record { n = 8; k = 3; b = 0 }) ≡ 27630792
+largest-hall : servers (hallOf 8 3 0) ≡ 27630792
 unfolding servers t
 largest-hall = refl

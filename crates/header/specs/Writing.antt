@@ -5,7 +5,7 @@ use mathlib.Core.List.{List, [], _∷_, _++_}
 use lib.Dec.{eqb, leb}
 use lib.ListN.{length, getD, drop}
 use Rattle.combine.specs.Tests.{pick}
-use Rattle.hall.specs.Refusals.{refusal, bad-header, bad-address, short-room}
+use Rattle.hall.specs.Refusals.{refusal, bad-header, bad-address, short-room, most-retry}
 use Rattle.frame.specs.declared.Header.{Header}
 use Rattle.frame.specs.Layout.{theVersion, wordsWith, wordsOf, bytesOf}
 use Rattle.frame.specs.Checksum.{headerChecksum}
@@ -50,7 +50,7 @@ headerBytes fields = bytesOf (headerWords fields) (countOf fields)
 unfoldable pub writeRefusal : Fields → List ℕ → ℕ
 writeRefusal fields room =
     refusal
-    ((bad-header, leb (fields .retry) 15)
+    ((bad-header, leb (fields .retry) most-retry)
     ∷ (bad-address, addressesFit (fields .source) (fields .destination) (fields .«has_proxy») (fields .proxy))
     ∷ (short-room, leb (4 * countOf fields) (length room))
     ∷ [])

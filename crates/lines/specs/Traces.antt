@@ -9,6 +9,7 @@ use Rattle.combine.specs.Tests.{pick}
 use Rattle.hall.specs.declared.Hall.{Hall}
 use Rattle.hall.specs.Refusals.{refusal, answered, bad-range, short-room}
 use Rattle.forward.specs.declared.Packet.{Packet}
+use Rattle.forward.specs.Packets.{unproxied}
 use Rattle.forward.specs.declared.Journey.{Journey}
 use Rattle.forward.specs.Answers.{journeyOf}
 use Rattle.sheet.specs.declared.Sheet.{Sheet}
@@ -31,7 +32,7 @@ openingText read = pick (eqb (read .refusal) 0) (hallLine (hallRead read)) (refu
 
 -- a sheet's packet as it starts: no proxy
 abbrev pub departing : SheetPacket → Packet
-departing p = record { dst = p .dst; «has_proxy» = false; proxy = 0; retry = p .retry; ttl = p .ttl }
+departing p = unproxied (p .dst) (p .retry) (p .ttl)
 
 -- the journey of packet i over the sheet's codes
 unfoldable pub journeyAt : List ℕ → Sheet → ℕ → Journey

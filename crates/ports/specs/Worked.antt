@@ -7,7 +7,7 @@ use Prim.Native.Nat.{ℕ}
 use lib.ListN.{replicate}
 use Rattle.hall.specs.declared.Hall.{Hall}
 use Rattle.hall.specs.Cells.{t, cell, same, neighbour}
-use Rattle.hall.specs.Halls.{nFits, kFits, bFits, valid, servers}
+use Rattle.hall.specs.Halls.{hallOf, nFits, kFits, bFits, valid, servers}
 use Rattle.hall.specs.Refusals.{refusal}
 use Rattle.ports.specs.Codes.{known, allKnown, firstUnknown, codeOf, up, tableLength, cellLength, run}
 use Rattle.ports.specs.Links.{onSwitch, bothUp, joined}
@@ -22,7 +22,7 @@ unfolding known
 seven-is-unknown = refl
 
 hall : Hall
-hall = record { n = 4; k = 1; b = 0 }
+hall = hallOf 4 1 0
 
 table : ℕ → List ℕ
 table code = replicate 7 1 ++ (code ∷ []) ++ replicate 25 1 ++ (code ∷ []) ++ replicate 6 1

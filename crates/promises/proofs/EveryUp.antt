@@ -37,7 +37,7 @@ use Rattle.forward.specs.declared.Step.{Step}
 use Rattle.forward.specs.Packets.{forwarded, delivered, cleared, tidied, isArrived, goal, aged}
 use Rattle.forward.specs.Seen.{usable, seen}
 use Rattle.forward.specs.Steps.{reachable, stepOn}
-use Rattle.forward.specs.Journeys.{Trip, stepAt, trip, sight}
+use Rattle.forward.specs.Journeys.{Trip, stepAt, endsAt, trip, sight}
 use Rattle.forward.specs.Endings.{Target, the-goal, the-near, Fails, unusable, out-of-reach}
 use Rattle.forward.specs.Travels.{Last, Travels, last-step, one-step}
 use Rattle.forward.proofs.Ways.{nears, crosses, no-route, spent, no-proxy, Passes, ends, clears, sets, Steps, delivers, dies, arrives, sets-out, Fits}
@@ -168,7 +168,7 @@ module _ (h : Hall) (table : List ℕ) (is-valid : valid h ≡ true) (long : len
     delivers-there : Last (p .dst) (passes h (p .ttl) x (p .dst)) → j .ending ≡ delivered
 
   goes-last : (x : ℕ) (p : Packet) → p .«has_proxy» ≡ false → x < servers h → p .dst < servers h → (stepAt h table x p .ending ≡ forwarded → ⊥)
-      → passes h (p .ttl) x (p .dst) ≡ x ∷ [] → Goes x p (record { ending = stepAt h table x p .ending; links = 0; reroutes = stepAt h table x p .reroutes; uids = x ∷ [] })
+      → passes h (p .ttl) x (p .dst) ≡ x ∷ [] → Goes x p (endsAt x (stepAt h table x p))
   goes-last x p e here there d w = cases (eqb x (p .dst))
       (λ q. let s = step-there x p e (eqb-true x (p .dst) q) in record { uids-so = sym w; no-reroutes = s .1; delivers-there = λ l. s .0 })
       (λ q.

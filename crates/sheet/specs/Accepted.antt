@@ -6,6 +6,7 @@ use mathlib.Core.List.{List}
 use Prim.Native.Nat.{ℕ, _+_, _≤_, _<_}
 use lib.ListN.{length}
 use Rattle.hall.specs.declared.Hall.{Hall}
+use Rattle.hall.specs.Refusals.{most-retry}
 use Rattle.hall.specs.Halls.{valid, servers}
 use Rattle.ports.specs.Codes.{known, tableLength}
 use Rattle.sheet.specs.Formats.{value}
@@ -16,11 +17,11 @@ use Rattle.sheet.specs.Answers.{place-count, place-codes, hallOf, packet
 unfoldable pub packetCountOf : List ℕ → ℕ
 packetCountOf s = value s (place-codes + value s place-count 4) 4
 
--- source and dst below t(k), retry at most 15
+-- source and dst below t(k), retry at most the greatest
 pub record PacketFits (h : Hall) (s : List ℕ) (at : ℕ) : Type 0 where
   pub source : value s at 4 < servers h
   pub dst : value s (at + 4) 4 < servers h
-  pub retry : value s (at + 8) 1 ≤ 15
+  pub retry : value s (at + 8) 1 ≤ most-retry
 
 pub record Accepted (s : List ℕ) : Type 0 where
   pub short : length s ≤ longest

@@ -6,7 +6,7 @@ use Prim.Native.Nat.{ℕ, zero, suc, _+_, _*_}
 use lib.Dec.{eqb, leb, ltb}
 use Rattle.hall.specs.declared.Hall.{Hall}
 use Rattle.hall.specs.Halls.{nFits, kFits, bFits, servers}
-use Rattle.hall.specs.Refusals.{bad-hall, bad-uid, bad-length, bad-code, bad-header}
+use Rattle.hall.specs.Refusals.{bad-hall, bad-uid, bad-length, bad-code, bad-header, most-retry}
 use Rattle.ports.specs.Codes.{known, tableLength}
 use Rattle.sheet.specs.Formats.{Format, done, field, and-then}
 
@@ -37,9 +37,9 @@ code = field 1 known bad-code done
 abbrev pub uid : ℕ → Format
 uid limit = field 4 (λ v. ltb v limit) bad-uid done
 
--- 0 to 15
+-- 0 to the greatest
 abbrev pub retry : Format
-retry = field 1 (λ v. leb v 15) bad-header done
+retry = field 1 (λ v. leb v most-retry) bad-header done
 
 -- a format so many times
 unfoldable pub times : ℕ → Format → Format

@@ -5,7 +5,7 @@ use mathlib.Core.List.{List, _++_}
 use Prim.Native.Nat.{ℕ}
 use borrow.Author.Needs.{needs}
 use Rattle.hall.specs.declared.Hall.{Hall}
-use Rattle.rooms.specs.Numbers.{hallOf}
+use Rattle.hall.specs.Halls.{hallOf}
 use Rattle.broadcast.specs.declared.Broadcast.{Broadcast}
 use Rattle.calls_packets.proofs.TwoRooms.{nothing-written, short-told, short-rounds, short-counts, long-rounds}
 use Rattle.calls_packets.proofs.calls_broadcast.Statement.{statement}

@@ -1,2 +1,0 @@
--- What calls for a caller outside of Rattle share.
-pub mod Numbers
