@@ -6,7 +6,6 @@ use Prim.Native.Nat.{ℕ, zero, suc, _+_, _-_}
 use lib.Dec.{eqb, leb, ltb}
 use lib.ListN.{length}
 use Rattle.combine.specs.Tests.{pick}
-use Rattle.hall.specs.declared.Hall.{Hall}
 use Rattle.hall.specs.Refusals.{refusal, answered, bad-range, short-room}
 use Rattle.forward.specs.declared.Packet.{Packet}
 use Rattle.forward.specs.Packets.{unproxied}
@@ -22,13 +21,9 @@ use Rattle.report.specs.Texts.{hallLine, refusedLine, endLine, packetLine}
 use Rattle.report.specs.Rooms.{put, roomy, writtenOf, roomOf}
 use Rattle.lines.specs.declared.Piece.{Piece}
 
--- the hall that reading a sheet answered
-abbrev pub hallRead : Sheet → Hall
-hallRead read = record { n = read .n; k = read .k; b = read .b }
-
 -- HALL n k b, or REFUSED number place
 unfoldable pub openingText : Sheet → List ℕ
-openingText read = pick (eqb (read .refusal) 0) (hallLine (hallRead read)) (refusedLine (read .refusal) (read .place))
+openingText read = pick (eqb (read .refusal) 0) (hallLine (read .hall)) (refusedLine (read .refusal) (read .place))
 
 -- a sheet's packet as it starts: no proxy
 abbrev pub departing : SheetPacket → Packet
@@ -36,7 +31,7 @@ departing p = unproxied (p .dst) (p .retry) (p .ttl)
 
 -- the journey of packet i over the sheet's codes
 unfoldable pub journeyAt : List ℕ → Sheet → ℕ → Journey
-journeyAt s read i = journeyOf (hallRead read) (packetFields s i .source) (departing (packetFields s i)) (codesPart s)
+journeyAt s read i = journeyOf (read .hall) (packetFields s i .source) (departing (packetFields s i)) (codesPart s)
 
 -- what became of a packet: its source, its dst, and its journey's ending and counts
 abbrev pub reportOf : SheetPacket → Journey → PacketReport

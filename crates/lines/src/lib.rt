@@ -7,7 +7,6 @@ ghost use Rattle.report.specs.Texts.{packetLine};
 ghost use Rattle.lines.specs.Traces.{openingText, journeyAt, reportOf, journeyText, journeyRefusal, unlessWritten, unlessRoom, lineCount, lineText, fittingText, fittingPiece, pieceOf, roomPiece};
 use forward::Journey;
 use forward::Packet;
-use hall::Hall;
 use hall::refusals::BAD_RANGE;
 use hall::refusals::SHORT_ROOM;
 use report::PacketReport;
@@ -30,12 +29,7 @@ pub fn opening_line(room: &mut [u8], at: usize, read: Sheet) -> Written
     if read.refusal != 0 {
         return report::refused_line(room, at, read.refusal, read.place);
     }
-    let h = Hall {
-        n: read.n,
-        k: read.k,
-        b: read.b,
-    };
-    report::hall_line(room, at, h)
+    report::hall_line(room, at, read.hall)
 }
 
 // A refused line.
@@ -53,11 +47,6 @@ fn journey_at(sheet: &[u8], read: Sheet, i: u32) -> Journey
     ensures { λ r. ⌜ r ≡ journeyAt (now (sheet .entry)) read i ⌝ }
 {
     let p = sheetparts::packet_fields(sheet, i);
-    let h = Hall {
-        n: read.n,
-        k: read.k,
-        b: read.b,
-    };
     let packet = Packet {
         dst: p.dst,
         has_proxy: false,
@@ -65,7 +54,7 @@ fn journey_at(sheet: &[u8], read: Sheet, i: u32) -> Journey
         retry: p.retry,
         ttl: p.ttl,
     };
-    forward::journey_of(h, p.source, packet, sheetparts::codes_part(sheet))
+    forward::journey_of(read.hall, p.source, packet, sheetparts::codes_part(sheet))
 }
 
 // The line of a packet and its journey.

@@ -17,7 +17,7 @@ use Rattle.sheet.specs.declared.Field.{Field}
 use Rattle.sheet.specs.declared.Field.the-variants.{Value, Refused}
 use Rattle.sheet.specs.Formats.{value, read}
 use Rattle.sheet.specs.Sheets.{longest, code, retry, codes, packet, packets, tablesOf, nightSheet}
-use Rattle.sheet.specs.Answers.{hallOf, sheetOf, packetPlace}
+use Rattle.sheet.specs.Answers.{hallOf, acceptedAs, sheetOf, packetPlace}
 use Rattle.sheet.specs.Accepted.{packetCountOf, PacketFits, Accepted}
 use Rattle.sheet.proofs.Reading.{placeOf, read-done, field-read, field-sound, then-value, within}
 use Rattle.sheet.proofs.Sheets.{sheet-long, sheet-refused, sheet-surplus, sheet-read}
@@ -158,7 +158,7 @@ module _ (s : List ℕ) (a : Accepted s) where
       ∙ tables-read
 
   -- and so it is accepted, with its hall and its number of packets
-  pub holds-accepted : sheetOf s ≡ record { refusal = 0; place = 0; n = hallOf s .n; k = hallOf s .k; b = hallOf s .b; packets = packetCountOf s }
+  pub holds-accepted : sheetOf s ≡ acceptedAs (hallOf s) (packetCountOf s)
   holds-accepted =
       let l = long in
       sheet-read s (a .short) ∙ rw (held-read, le-ltb (length s) (length s) (omega arith))

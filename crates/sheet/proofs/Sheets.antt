@@ -11,7 +11,7 @@ use Rattle.sheet.specs.declared.Field.the-variants.{Value, Refused}
 use Rattle.sheet.specs.declared.Sheet.{Sheet}
 use Rattle.sheet.specs.Formats.{read}
 use Rattle.sheet.specs.Sheets.{longest, nightSheet}
-use Rattle.sheet.specs.Answers.{refusedAt, told, sheetOf}
+use Rattle.sheet.specs.Answers.{refusedAt, acceptedAs, told, sheetOf}
 use Rattle.sheet.proofs.Reading.{value-one}
 
 module _ (s : List ℕ) where
@@ -32,6 +32,5 @@ module _ (s : List ℕ) where
       pub sheet-surplus : end < length s → sheetOf s ≡ refusedAt bad-sheet end
       sheet-surplus h = sheet-read ∙ rw (e, lt-ltb end (length s) h)
 
-      pub sheet-accepted : length s ≤ end
-          → sheetOf s ≡ record { refusal = 0; place = 0; n = getD s 4 0; k = getD s 5 0; b = getD s 6 0; packets = packetCount }
+      pub sheet-accepted : length s ≤ end → sheetOf s ≡ acceptedAs (record { n = getD s 4 0; k = getD s 5 0; b = getD s 6 0 }) packetCount
       sheet-accepted h = sheet-read ∙ rw (e, le-ltb end (length s) h, value-one s 4, value-one s 5, value-one s 6)

@@ -34,16 +34,20 @@ place-codes = 11
 abbrev pub hallOf : List ℕ → Hall
 hallOf s = record { n = value s place-n 1; k = value s place-k 1; b = value s place-b 1 }
 
--- a refused sheet: number and place
+-- a refused sheet: number and place, and zero in every other field
 abbrev pub refusedAt : ℕ → ℕ → Sheet
-refusedAt number place = record { refusal = number; place = place; n = 0; k = 0; b = 0; packets = 0 }
+refusedAt number place = record { refusal = number; place = place; hall = record { n = 0; k = 0; b = 0 }; packets = 0 }
+
+-- an accepted one: its hall and its number of packets
+abbrev pub acceptedAs : Hall → ℕ → Sheet
+acceptedAs h packetCount = record { refusal = 0; place = 0; hall = h; packets = packetCount }
 
 -- the number and values for each case of a field's read, at the end of the sheet: a surplus is told at its first byte
 abbrev pub told : List ℕ → Field → Sheet
 told s (Refused number place) = refusedAt number place
 told s (Value packetCount end) =
     pick (ltb end (length s)) (refusedAt bad-sheet end)
-    (record { refusal = 0; place = 0; n = hallOf s .n; k = hallOf s .k; b = hallOf s .b; packets = packetCount })
+    (acceptedAs (hallOf s) packetCount)
 
 -- at most 65,536 bytes, else 10 at place 65,536
 unfoldable pub sheetOf : List ℕ → Sheet

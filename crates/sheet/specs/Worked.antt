@@ -9,7 +9,7 @@ use Rattle.hall.specs.Halls.{nFits, kFits, bFits, servers}
 use Rattle.ports.specs.Codes.{known, tableLength}
 use Rattle.sheet.specs.Formats.{value, read, and-then}
 use Rattle.sheet.specs.Sheets.{times, packet, tablesOf, nightSheet}
-use Rattle.sheet.specs.Answers.{refusedAt, sheetOf}
+use Rattle.sheet.specs.Answers.{refusedAt, acceptedAs, sheetOf}
 
 -- the sheet, with a code at the bytes 7 and 33 of its hall table, and what stands behind its packet
 unfoldable pub sheetWith : ℕ → List ℕ → List ℕ
@@ -18,7 +18,7 @@ sheetWith code rest =
     ++ (0 ∷ 0 ∷ 0 ∷ 40 ∷ []) ++ replicate 7 1 ++ (code ∷ []) ++ replicate 25 1 ++ (code ∷ []) ++ replicate 6 1
     ++ (0 ∷ 0 ∷ 0 ∷ 1 ∷ []) ++ (0 ∷ 0 ∷ 0 ∷ 0 ∷ 0 ∷ 0 ∷ 0 ∷ 19 ∷ 5 ∷ 15 ∷ []) ++ rest
 
-accepted : sheetOf (sheetWith 2 []) ≡ record { refusal = 0; place = 0; n = 4; k = 1; b = 0; packets = 1 }
+accepted : sheetOf (sheetWith 2 []) ≡ acceptedAs (record { n = 4; k = 1; b = 0 }) 1
 unfolding sheetOf sheetWith nightSheet tablesOf times packet read and-then value nFits kFits bFits tableLength servers t known
 accepted = refl
 

@@ -59,7 +59,7 @@ module _ (s : List ℕ) (b : Bytes s) where
 
   -- the sections one behind the other
   encoded : (sheet : Sheet) (codes : List ℕ) (packet : ℕ → SheetPacket) → Accepted s
-      → sheet .n ≡ value s 4 1 → sheet .k ≡ value s 5 1 → sheet .b ≡ value s 6 1 → sheet .packets ≡ packetCountOf s
+      → sheet .hall .n ≡ value s 4 1 → sheet .hall .k ≡ value s 5 1 → sheet .hall .b ≡ value s 6 1 → sheet .packets ≡ packetCountOf s
       → codes ≡ take (value s 7 4) (drop 11 s)
       → ((i : ℕ) → i < packetCountOf s → packet i ≡ packetFields s i)
       → s ≡ encodingOf sheet codes packet
@@ -82,12 +82,12 @@ module _ (s : List ℕ) (b : Bytes s) where
       sym (take-append-drop (value s 7 4) (drop 11 s)) ∙ rw (drop-drop (value s 7 4) 11 s, s6, ec) in
       let s4 : drop 7 s ≡ bytesOf 4 (length codes) ++ (codes ++ (bytesOf 4 (sheet .packets) ++ packetsBytes packet (sheet .packets))) =
       drop-bytes 4 7 (omega arith) ∙ rw (s5, cl) in
-      let s3 : drop 6 s ≡ bytesOf 1 (sheet .b) ++ drop 7 s = rw eb (drop-bytes 1 6 (omega arith)) in
-      let s2 : drop 5 s ≡ bytesOf 1 (sheet .k) ++ drop 6 s = rw ek (drop-bytes 1 5 (omega arith)) in
-      let s1 : drop 4 s ≡ bytesOf 1 (sheet .n) ++ drop 5 s = rw en (drop-bytes 1 4 (omega arith)) in
+      let s3 : drop 6 s ≡ bytesOf 1 (sheet .hall .b) ++ drop 7 s = rw eb (drop-bytes 1 6 (omega arith)) in
+      let s2 : drop 5 s ≡ bytesOf 1 (sheet .hall .k) ++ drop 6 s = rw ek (drop-bytes 1 5 (omega arith)) in
+      let s1 : drop 4 s ≡ bytesOf 1 (sheet .hall .n) ++ drop 5 s = rw en (drop-bytes 1 4 (omega arith)) in
       let s0 : s ≡ bytesOf 4 3 ++ drop 4 s = rw (← a .first) (drop-bytes 4 0 (omega arith)) in
-      s0 ∙ ap (λ (x : List ℕ). bytesOf 4 3 ++ x) (s1 ∙ ap (λ (x : List ℕ). bytesOf 1 (sheet .n) ++ x)
-      (s2 ∙ ap (λ (x : List ℕ). bytesOf 1 (sheet .k) ++ x) (s3 ∙ ap (λ (x : List ℕ). bytesOf 1 (sheet .b) ++ x) s4)))
+      s0 ∙ ap (λ (x : List ℕ). bytesOf 4 3 ++ x) (s1 ∙ ap (λ (x : List ℕ). bytesOf 1 (sheet .hall .n) ++ x)
+      (s2 ∙ ap (λ (x : List ℕ). bytesOf 1 (sheet .hall .k) ++ x) (s3 ∙ ap (λ (x : List ℕ). bytesOf 1 (sheet .hall .b) ++ x) s4)))
       ∙ simp append-assoc
 
   codes-fit : Accepted s → 11 + value s 7 4 ≤ length s
@@ -100,7 +100,7 @@ module _ (s : List ℕ) (b : Bytes s) where
       let a = accepted-holds s ok in
       let e = holds-accepted s a in
       let l : 11 + value s 7 4 ≤ length s = codes-fit a in
-      encoded (sheetOf s) (codesOf s) (packetAt s) a (ap (λ x. x .n) e) (ap (λ x. x .k) e) (ap (λ x. x .b) e) (ap (λ x. x .packets) e)
+      encoded (sheetOf s) (codesOf s) (packetAt s) a (ap (λ x. x .hall .n) e) (ap (λ x. x .hall .k) e) (ap (λ x. x .hall .b) e) (ap (λ x. x .packets) e)
       (sym (codes-there s l ∙ codes-answered s (sheetOf s) refl ok))
       (λ i h. sym (packet-answered s (sheetOf s) refl i ok (omega (arith, ap (λ x. x .packets) e))))
 

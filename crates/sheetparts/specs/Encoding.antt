@@ -26,6 +26,6 @@ packetsBytes packet (suc i) = packetsBytes packet i ++ packetBytes (packet i)
 -- the sections in order, each after its count
 unfoldable pub encodingOf : Sheet → List ℕ → (ℕ → SheetPacket) → List ℕ
 encodingOf sheet codes packet =
-    bytesOf 4 3 ++ bytesOf 1 (sheet .n) ++ bytesOf 1 (sheet .k) ++ bytesOf 1 (sheet .b)
+    bytesOf 4 3 ++ bytesOf 1 (sheet .hall .n) ++ bytesOf 1 (sheet .hall .k) ++ bytesOf 1 (sheet .hall .b)
     ++ bytesOf 4 (length codes) ++ codes
     ++ bytesOf 4 (sheet .packets) ++ packetsBytes packet (sheet .packets)
