@@ -9,13 +9,14 @@ use lib.ListN.{length}
 use borrow.Author.Tests.{eq-eqb, ne-eqb, eqb-true, eqb-false, le-leb, lt-leb, leb-true}
 use Rattle.combine.specs.Tests.{pick, either}
 use Rattle.combine.proofs.Tests.{cases, either-cases}
-use Rattle.hall.specs.Refusals.{Ask}
+use Rattle.hall.specs.Refusals.{Ask, inOrder}
+use Rattle.hall.proofs.Asks.{Numbered, ask-holds, ask-fails, hold-accepted, accepted-hold, front-refuses, front-holds}
 use Rattle.frame.specs.Layout.{version, DHL, payloadLength, flags, checksum, source, destination, proxy, wordsWith, valueIn, wordAt}
 use Rattle.frame.specs.Checksum.{headerChecksum}
 use Rattle.frame.specs.Addresses.{addressesFit}
-use Rattle.frame.specs.Asks.{inOrder, isPF, hasProxy, proxyIn, asksHeader, asksWhole, asksFrame, frameRefusal}
+use Rattle.frame.specs.Asks.{isPF, hasProxy, proxyIn, asksHeader, asksWhole, asksFrame, frameRefusal}
 use Rattle.frame.specs.Reading.{headerOf}
-use Rattle.frame.proofs.Orders.{Numbered, ask-holds, ask-fails, hold-accepted, accepted-hold, front-refuses, front-holds, header-numbered}
+use Rattle.frame.proofs.Orders.{header-numbered}
 use Rattle.frame.proofs.Rows.{version-in, DHL-in, protocol-in, payload-in, retry-in, flags-in, TTL-in, checksum-in, identification-in, source-in, destination-in, proxy-in}
 
 -- the asks of a header of count words, one after the other

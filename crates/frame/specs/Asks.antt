@@ -6,15 +6,10 @@ use mathlib.Core.List.{List, [], _∷_, _++_}
 use lib.Dec.{eqb, leb}
 use lib.ListN.{length}
 use Rattle.combine.specs.Tests.{pick, either}
-use Rattle.hall.specs.Refusals.{Ask, short-frame, bad-header, bad-checksum, bad-address}
+use Rattle.hall.specs.Refusals.{Ask, inOrder, short-frame, bad-header, bad-checksum, bad-address}
 use Rattle.frame.specs.Layout.{version, DHL, payloadLength, flags, checksum, source, destination, proxy, theVersion, wordsWith, valueIn, wordAt}
 use Rattle.frame.specs.Checksum.{headerChecksum}
 use Rattle.frame.specs.Addresses.{addressesFit}
-
--- the number of the first ask that fails, 0 where none does
-unfoldable pub inOrder : List Ask → ℕ
-inOrder [] = 0
-inOrder (ask ∷ asks) = pick (ask .1) (inOrder asks) (ask .0)
 
 -- PF is the flag of value 1
 abbrev pub isPF : ℕ → Bool

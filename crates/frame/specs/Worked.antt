@@ -4,11 +4,11 @@ use Prim.Native.Nat.{ℕ}
 use mathlib.Core.Bool.{false}
 use mathlib.Core.List.{List, [], _∷_, _++_}
 use mathlib.Core.Path.{_≡_, refl}
-use Rattle.hall.specs.Refusals.{bad-checksum}
+use Rattle.hall.specs.Refusals.{inOrder, bad-checksum}
 use Rattle.frame.specs.Layout.{bits, joined, cut, has, inRows, valueIn, before, offsetIn, offset, wordAt}
 use Rattle.frame.specs.Checksum.{plusOnes, sumOnes, without, checksumOf, halves, checksumPlace, headerChecksum}
 use Rattle.frame.specs.Addresses.{server, broadcast, addressesFit}
-use Rattle.frame.specs.Asks.{inOrder, asksHeader, asksWhole, asksFrame, frameRefusal}
+use Rattle.frame.specs.Asks.{asksHeader, asksWhole, asksFrame, frameRefusal}
 use Rattle.frame.specs.Reading.{readFrame, nextIdentification}
 
 -- 1506 0000 0000 0001 500F 9AD6 0000 0000 0000 0013

@@ -1,4 +1,5 @@
 -- The laws.
+pub mod Asks
 pub mod Place
 pub mod Cells
 pub mod Links

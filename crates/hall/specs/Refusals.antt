@@ -76,6 +76,11 @@ firstFailing (number ∷ rest) asks = pick (fails number asks) number (firstFail
 unfoldable pub refusal : List Ask → ℕ
 refusal asks = firstFailing order asks
 
+-- the number of the first ask that fails, in the order in which they stand; 0 where none does
+unfoldable pub inOrder : List Ask → ℕ
+inOrder [] = 0
+inOrder (ask ∷ asks) = pick (ask .1) (inOrder asks) (ask .0)
+
 -- a call's answer: good where nothing is refused, else what a refusal of that number answers
 abbrev pub answered {ℓ} : {A : Type ℓ} → ℕ → A → (ℕ → A) → A
 answered number good refused = pick (eqb number 0) good (refused number)

@@ -1,7 +1,7 @@
 -- `frame::reading::frame_refusal` meets its contract: length, then version, DHL and flags, then what is left are the definition's asks in turn.
 use mathlib.Core.Path.{_≡_, sym, _∙_}
+use Rattle.hall.specs.Refusals.{inOrder}
 use Rattle.frame.specs.Layout.{wordAt}
-use Rattle.frame.specs.Asks.{inOrder}
 use Rattle.frame.proofs.Frames.{header-words, headerAsks, frame-short, frame-header, frame-whole}
 use Rattle.frame.proofs.Rows.{DHL-in}
 use borrow.Author.Needs.{needs}

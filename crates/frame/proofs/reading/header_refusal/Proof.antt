@@ -3,7 +3,8 @@ use mathlib.Core.Path.{_≡_, sym}
 use borrow.Author.Needs.{needs}
 use native.Mathlib.Omega.{arith}
 use borrow.Author.Tests.{eq-eqb, ne-eqb}
-use Rattle.frame.specs.Asks.{inOrder, asksHeader}
+use Rattle.hall.specs.Refusals.{inOrder}
+use Rattle.frame.specs.Asks.{asksHeader}
 use Rattle.frame.proofs.Orders.{header-flags, header-agrees, header-disagrees}
 use Rattle.frame.proofs.reading.header_refusal.Statement.{statement}
 use Rattle.frame.proofs.reading.header_refusal.Tie as tie
