@@ -1,0 +1,4 @@
+-- The laws.
+pub mod Row
+pub mod Rows
+pub mod Places
