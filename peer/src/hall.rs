@@ -176,6 +176,11 @@ pub fn servers_of(h: Hall) -> u32 {
     scale(h).map_or(0, |scale| scale.size(h.k))
 }
 
+/// t(level), the servers of a DCell of a level; 0 where the hall is not valid or has no such level.
+pub fn size_of(h: Hall, level: u32) -> u32 {
+    scale(h).map_or(0, |scale| if level <= h.k { scale.size(level) } else { 0 })
+}
+
 /// The sizes of a hall.
 pub fn sizes(h: Hall) -> Sizes {
     let mut answer = Sizes {
@@ -577,6 +582,11 @@ mod tests {
                     let h = Hall { n, k, b };
                     assert_eq!(is_valid(h), sound);
                     assert_eq!(servers_of(h), if sound { naive::servers(h) } else { 0 });
+                    for level in numbers {
+                        let there = sound && level <= k;
+                        let size = if there { naive::size(n, level) } else { 0 };
+                        assert_eq!(size_of(h, level), size);
+                    }
                 }
             }
         }

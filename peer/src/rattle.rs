@@ -13,6 +13,7 @@ mod foreign {
     #[link(name = "calls_hall", kind = "static")]
     unsafe extern "C" {
         pub fn calls_sizes(n: u32, k: u32, b: u32, room: *mut u32, length: usize) -> u32;
+        pub fn calls_size_of(n: u32, k: u32, b: u32, level: u32) -> u32;
         pub fn calls_uid(
             n: u32,
             k: u32,
@@ -409,6 +410,12 @@ pub fn b_fits(k: u32, b: u32) -> bool {
 #[inline]
 pub fn servers(h: Hall) -> u32 {
     unsafe { foreign::calls_servers(h.n, h.k, h.b) }
+}
+
+/// The servers of a DCell of a level; 0 where there is no such hall or level.
+#[inline]
+pub fn size_of(h: Hall, level: u32) -> u32 {
+    unsafe { foreign::calls_size_of(h.n, h.k, h.b, level) }
 }
 
 /// The check of a hall table: its refusal.

@@ -16,7 +16,8 @@ use Rattle.hall.specs.declared.Hall.{Hall}
 use Rattle.hall.specs.Cells.{cell}
 use Rattle.hall.specs.Halls.{valid, servers}
 use Rattle.hall.specs.Refusals.{bad-hall, bad-length, bad-uid, bad-address, short-room}
-use Rattle.hall.proofs.Growth.{valid-known, valid-pos}
+use Rattle.hall.specs.Answers.{sizeOf}
+use Rattle.hall.proofs.Growth.{valid-known, valid-pos, size-of}
 use Rattle.ports.specs.Codes.{tableLength, cellLength, run}
 use Rattle.ports.specs.Links.{joined}
 use Rattle.ports.proofs.Parts.{Sound, run-within}
@@ -31,6 +32,11 @@ use Rattle.broadcast.specs.Broadcasts.{none, scopeFits, scopeSize, first
 use Rattle.broadcast.specs.Sweeps.{RoundFits, Ready}
 use Rattle.broadcast.proofs.Reaches.{scope-fits}
 use Rattle.broadcast.proofs.Refusals.{tests, scope-low, scope-two}
+
+-- the size that the code works out is that of the scope's DCell
+pub scope-size : (h : Hall) (s size : ℕ) → valid h ≡ true → scopeFits h s ≡ true → size ≡ sizeOf h s → size ≡ scopeSize h s
+unfolding scopeSize
+scope-size h s size v f e = size-of h s size v (scope-low h s f) e
 
 -- an input that is not refused
 pub record Accepted (h : Hall) (table : List ℕ) (u s : ℕ) (room : List ℕ) : Type 0 where

@@ -3,16 +3,13 @@ pub mod places;
 pub mod sweeps;
 
 ghost use mathlib.Core.Path.{_≡_};
-ghost use mathlib.Core.Bool.{true};
 ghost use mathlib.Core.List.{_++_};
 ghost use Prim.Native.Nat.{max, _+_, _*_, _%_, _≤_, _<_};
 ghost use lib.ListN.{length, take, drop, replicate};
-ghost use Rattle.hall.specs.Cells.{t};
-ghost use Rattle.hall.specs.Halls.{valid};
 ghost use Rattle.ports.specs.Links.{joined};
 ghost use Rattle.search.specs.Rounds.{start, distances, reachedCount, lastRound};
 ghost use Rattle.broadcast.specs.Sweeps.{Ready};
-ghost use Rattle.broadcast.specs.Broadcasts.{none, scopeFits, scopeSize, tallyOf, broadcastRefusal, broadcastOf, roomOf};
+ghost use Rattle.broadcast.specs.Broadcasts.{none, scopeFits, tallyOf, broadcastRefusal, broadcastOf, roomOf};
 use crate::sweeps::one_round;
 use hall::Hall;
 use hall::refusals::BAD_ADDRESS;
@@ -26,16 +23,6 @@ pub struct Broadcast {
     pub refusal: u32,
     pub reached: u32,
     pub last: u32,
-}
-
-// t(s), the servers of a DCell of level s.
-fn scope_size(h: Hall, s: u32) -> u32
-    requires { ⌜ (valid h ≡ true) × (s ≤ h .k) ⌝ }
-    ensures { λ r. ⌜ r ≡ scopeSize h s ⌝ }
-{
-    let sizes = hall::sizes_of(h).t;
-    let at = s as usize;
-    sizes[at]
 }
 
 // Whether there is such a scope in a hall.
@@ -59,7 +46,7 @@ fn refused(h: Hall, table: &[u8], source: u32, scope: u32, room: &[u16]) -> u32
     if !scope_fits(h, scope) {
         return BAD_ADDRESS;
     }
-    if room.len() < (scope_size(h, scope) as usize) {
+    if room.len() < (hall::size_of(h, scope) as usize) {
         return SHORT_ROOM;
     }
     0
@@ -156,7 +143,7 @@ pub fn broadcast_rounds(
             last: 0,
         };
     }
-    let size = scope_size(h, scope);
+    let size = hall::size_of(h, scope);
     let bytes = (size as usize) * ((h.k as usize) + 1);
     let from = ((source / size) as usize) * bytes;
     let to = from + bytes;

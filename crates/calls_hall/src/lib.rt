@@ -1,7 +1,7 @@
 // The calls about a hall, its routes and its tables for a caller outside of Rattle, on plain numbers and slices.
 ghost use mathlib.Core.Path.{_≡_};
 ghost use mathlib.Core.List.{[], _∷_};
-ghost use Rattle.hall.specs.Answers.{sizesOf};
+ghost use Rattle.hall.specs.Answers.{sizeOf, sizesOf};
 ghost use Rattle.cells.specs.Answers.{uidOf, tupleOf, cellAround, neighbourOf, linkBetween};
 ghost use Rattle.route.specs.Answers.{routeBetween};
 ghost use Rattle.ports.specs.Answers.{checkOf};
@@ -20,6 +20,13 @@ pub extern "C" fn calls_sizes(n: u32, k: u32, b: u32, room: &mut [u32]) -> u32
     let a = hall::sizes_of(Hall { n, k, b });
     let words = a.t;
     tell(a.refusal, &words, room)
+}
+
+#[no_mangle]
+pub extern "C" fn calls_size_of(n: u32, k: u32, b: u32, level: u32) -> u32
+    ensures { λ r. ⌜ r ≡ sizeOf (hallOf n k b) level ⌝ }
+{
+    hall::size_of(Hall { n, k, b }, level)
 }
 
 #[no_mangle]

@@ -9,12 +9,12 @@ ghost use Rattle.combine.specs.Lists.{upTo};
 ghost use Rattle.hall.specs.Refusals.{refusal};
 ghost use Rattle.hall.specs.Halls.{asksHall, asksUid, asksLevel};
 ghost use Rattle.hall.specs.Tuples.{entryFits, tupleFits, uidUpTo, tuple};
-ghost use Rattle.hall.specs.Answers.{sizeAt, sizesOf};
+ghost use Rattle.hall.specs.Answers.{sizeAt};
 ghost use Rattle.cells.specs.Answers.{uidOf, tupleOf, cellAround, neighbourOf, asksLink, linkBetween};
 use crate::joined::ends_over;
 use crate::joined::neighbour_over;
 use hall::Hall;
-use hall::Sizes;
+use hall::refusals::BAD_HALL;
 use hall::refusals::BAD_RANGE;
 use hall::refusals::BAD_UID;
 
@@ -51,27 +51,24 @@ pub struct Link {
 }
 
 // The refusal for a hall and a uid, 0 for none.
-fn refused_uid(h: Hall, sizes: Sizes, uid: u32) -> u32
-    requires { ⌜ sizes ≡ sizesOf h ⌝ }
+fn refused_uid(h: Hall, uid: u32) -> u32
     ensures { λ r. ⌜ r ≡ refusal (asksHall h ∷ asksUid h uid ∷ []) ⌝ }
 {
-    if sizes.refusal != 0 {
-        return sizes.refusal;
+    let servers = hall::servers_of(h);
+    if servers == 0 {
+        return BAD_HALL;
     }
-    let t = sizes.t;
-    let top = h.k as usize;
-    if t[top] <= uid {
+    if servers <= uid {
         return BAD_UID;
     }
     0
 }
 
 // The refusal for a hall, a uid and a level from `lowest` on, 0 for none.
-fn refused_level(h: Hall, sizes: Sizes, uid: u32, lowest: u32, level: u32) -> u32
-    requires { ⌜ sizes ≡ sizesOf h ⌝ }
+fn refused_level(h: Hall, uid: u32, lowest: u32, level: u32) -> u32
     ensures { λ r. ⌜ r ≡ refusal (asksHall h ∷ asksUid h uid ∷ asksLevel h lowest level ∷ []) ⌝ }
 {
-    let refused = refused_uid(h, sizes, uid);
+    let refused = refused_uid(h, uid);
     if refused != 0 {
         return refused;
     }
@@ -88,8 +85,7 @@ fn refused_level(h: Hall, sizes: Sizes, uid: u32, lowest: u32, level: u32) -> u3
 pub fn cell_around(h: Hall, uid: u32, level: u32) -> Cell
     ensures { λ r. ⌜ r ≡ cellAround h uid level ⌝ }
 {
-    let sizes = hall::sizes_of(h);
-    let refused = refused_level(h, sizes, uid, 0, level);
+    let refused = refused_level(h, uid, 0, level);
     if refused != 0 {
         return Cell {
             refusal: refused,
@@ -97,9 +93,7 @@ pub fn cell_around(h: Hall, uid: u32, level: u32) -> Cell
             count: 0,
         };
     }
-    let t = sizes.t;
-    let at = level as usize;
-    let count = t[at];
+    let count = hall::size_of(h, level);
     Cell {
         refusal: 0,
         first: uid / count * count,
@@ -111,16 +105,14 @@ pub fn cell_around(h: Hall, uid: u32, level: u32) -> Cell
 pub fn neighbour_of(h: Hall, uid: u32, level: u32) -> Neighbour
     ensures { λ r. ⌜ r ≡ neighbourOf h uid level ⌝ }
 {
-    let sizes = hall::sizes_of(h);
-    let refused = refused_level(h, sizes, uid, 1, level);
+    let refused = refused_level(h, uid, 1, level);
     if refused != 0 {
         return Neighbour {
             refusal: refused,
             uid: 0,
         };
     }
-    let t = sizes.t;
-    let joined = neighbour_over(t[(level - 1) as usize], uid);
+    let joined = neighbour_over(hall::size_of(h, level - 1), uid);
     Neighbour {
         refusal: 0,
         uid: joined as u32,
@@ -128,17 +120,14 @@ pub fn neighbour_of(h: Hall, uid: u32, level: u32) -> Neighbour
 }
 
 // The refusal for the link between the sub-cells p and q, 0 for none.
-fn refused_link(h: Hall, sizes: Sizes, uid: u32, level: u32, p: u32, q: u32) -> u32
-    requires { ⌜ sizes ≡ sizesOf h ⌝ }
+fn refused_link(h: Hall, uid: u32, level: u32, p: u32, q: u32) -> u32
     ensures { λ r. ⌜ r ≡ refusal (asksLink h uid level p q) ⌝ }
 {
-    let refused = refused_level(h, sizes, uid, 1, level);
+    let refused = refused_level(h, uid, 1, level);
     if refused != 0 {
         return refused;
     }
-    let t = sizes.t;
-    let below = (level - 1) as usize;
-    let size = t[below];
+    let size = hall::size_of(h, level - 1);
     if size < p {
         return BAD_RANGE;
     }
@@ -155,8 +144,7 @@ fn refused_link(h: Hall, sizes: Sizes, uid: u32, level: u32, p: u32, q: u32) -> 
 pub fn link_between(h: Hall, uid: u32, level: u32, p: u32, q: u32) -> Link
     ensures { λ r. ⌜ r ≡ linkBetween h uid level p q ⌝ }
 {
-    let sizes = hall::sizes_of(h);
-    let refused = refused_link(h, sizes, uid, level, p, q);
+    let refused = refused_link(h, uid, level, p, q);
     if refused != 0 {
         return Link {
             refusal: refused,
@@ -164,12 +152,9 @@ pub fn link_between(h: Hall, uid: u32, level: u32, p: u32, q: u32) -> Link
             to: 0,
         };
     }
-    let t = sizes.t;
-    let at = level as usize;
-    let count = t[at];
+    let size = hall::size_of(h, level - 1);
+    let count = (size + 1) * size;
     let first = uid / count * count;
-    let below = (level - 1) as usize;
-    let size = t[below];
     let ends = ends_over(size, first + p * size, first + q * size);
     Link {
         refusal: 0,
@@ -275,10 +260,10 @@ fn entries_up_to(n: u32, k: u32, uid: u32) -> [u32; 4]
 pub fn tuple_of(h: Hall, uid: u32) -> Tuple
     ensures { λ r. ⌜ r ≡ tupleOf h uid ⌝ }
 {
-    let refused = refused_uid(h, hall::sizes_of(h), uid);
-    if refused != 0 {
+    let number = refused_uid(h, uid);
+    if number != 0 {
         return Tuple {
-            refusal: refused,
+            refusal: number,
             entries: [0u32; 4],
         };
     }

@@ -11,7 +11,7 @@ use lib.Dec.{leb}
 use lib.ListN.{getD, replicate}
 use lib.Arith.{le-zero}
 use borrow.Author.Tests.{leb-true, leb-false, le-leb, lt-leb}
-use Rattle.combine.specs.Tests.{both}
+use Rattle.combine.specs.Tests.{pick, both}
 use Rattle.combine.specs.Lists.{upTo}
 use Rattle.combine.proofs.Tests.{cases, both-left, both-right}
 use Rattle.combine.proofs.Lists.{getD-upTo}
@@ -20,7 +20,7 @@ use Rattle.hall.specs.declared.Sizes.{Sizes}
 use Rattle.hall.specs.Refusals.{refusal}
 use Rattle.hall.specs.Cells.{t, g}
 use Rattle.hall.specs.Halls.{places, nFits, kFits, bFits, valid, servers, largest}
-use Rattle.hall.specs.Answers.{sizeAt, sizesOf}
+use Rattle.hall.specs.Answers.{sizeAt, sizeOf, sizesOf}
 use Rattle.hall.proofs.Cells.{t-pos}
 
 pub t-more : (n m i : ℕ) → n ≤ m → t n i ≤ t m i
@@ -91,6 +91,18 @@ valid-pos h v i = t-pos (h .n) (omega arith) i
 pub valid-size : (h : Hall) → Valid h → (i : ℕ) → i ≤ h .k → t (h .n) i ≤ largest
 valid-size h v i l = t-fits (h .n) i (v .n-high) (omega arith)
 
+-- a valid hall has servers, and one that is not has none to show
+module _ (h : Hall) (r : ℕ) (e : r ≡ pick (valid h) (servers h) 0) where
+  pub valid-servers : valid h ≡ true → r ≡ servers h
+  valid-servers v = e ∙ rw v
+
+  pub some-servers : (r ≡ 0 → ⊥) → valid h ≡ true
+  some-servers ne = cases (valid h) (λ v. v) (λ v. absurd (ne (e ∙ rw v)))
+
+  pub no-servers : r ≡ 0 → valid h ≡ false
+  unfolding servers
+  no-servers z = cases (valid h) (λ v. absurd (omega (arith, valid-servers v, valid-pos h (valid-known h v) (h .k)))) (λ v. v)
+
 -- every uid of a valid hall is below the servers of the largest
 pub uid-fits : (h : Hall) → Valid h → (u : ℕ) → u < servers h → u < largest
 unfolding servers
@@ -104,6 +116,11 @@ size-at n k i h = rw (le-leb i k h)
 pub size-above : (n k i : ℕ) → k < i → sizeAt n k i ≡ 0
 unfolding sizeAt
 size-above n k i h = rw (lt-leb i k h)
+
+-- one size of a valid hall
+pub size-of : (h : Hall) (i s : ℕ) → valid h ≡ true → i ≤ h .k → s ≡ sizeOf h i → s ≡ t (h .n) i
+unfolding sizeOf
+size-of h i s v l e = e ∙ rw v (size-at (h .n) (h .k) i l)
 
 -- a size up to level k, read off the sizes
 pub size-read : (n k i : ℕ) (sizes : List ℕ) → k ≤ 3 → i ≤ k → sizes ≡ upTo (sizeAt n k) places → getD sizes i 0 ≡ t n i

@@ -1,4 +1,4 @@
--- What the call about a hall's sizes answers.
+-- What the calls about a hall's sizes answer.
 -- Sections "The hall and its numbers" and "Refusal numbers".
 use mathlib.Core.List.{[], _∷_}
 use Prim.Native.Nat.{ℕ}
@@ -10,11 +10,15 @@ use Rattle.hall.specs.declared.Hall.{Hall}
 use Rattle.hall.specs.declared.Sizes.{Sizes}
 use Rattle.hall.specs.Refusals.{refusal, answered}
 use Rattle.hall.specs.Cells.{t}
-use Rattle.hall.specs.Halls.{places, asksHall}
+use Rattle.hall.specs.Halls.{places, valid, asksHall}
 
 -- t(0) .. t(k), zeros above k
 unfoldable pub sizeAt : ℕ → ℕ → ℕ → ℕ
 sizeAt n k i = pick (leb i k) (t n i) 0
+
+-- t(i), the servers of a DCell of level i; 0 where there is no such hall or level
+unfoldable pub sizeOf : Hall → ℕ → ℕ
+sizeOf h i = pick (valid h) (sizeAt (h .n) (h .k) i) 0
 
 abbrev pub sizesOf : Hall → Sizes
 sizesOf h =

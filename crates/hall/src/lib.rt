@@ -7,7 +7,7 @@ ghost use Rattle.combine.specs.Tests.{pick};
 ghost use Rattle.combine.specs.Lists.{upTo};
 ghost use Rattle.hall.specs.Cells.{t};
 ghost use Rattle.hall.specs.Halls.{nFits, kFits, bFits, valid, servers};
-ghost use Rattle.hall.specs.Answers.{sizeAt, sizesOf};
+ghost use Rattle.hall.specs.Answers.{sizeAt, sizeOf, sizesOf};
 use crate::refusals::BAD_HALL;
 
 // A hall: n servers on a mini-switch, top level k, local level b.
@@ -85,6 +85,19 @@ pub fn servers_of(h: Hall) -> u32
         return 0;
     }
     size(h.n, h.k)
+}
+
+// t(i), the servers of a DCell of level i; 0 where there is no such hall or level.
+pub fn size_of(h: Hall, i: u32) -> u32
+    ensures { λ r. ⌜ r ≡ sizeOf h i ⌝ }
+{
+    if !is_valid(h) {
+        return 0;
+    }
+    if h.k < i {
+        return 0;
+    }
+    size(h.n, i)
 }
 
 // The sizes up to level k, zeros above.

@@ -4,11 +4,8 @@ pub mod codes;
 ghost use mathlib.Core.Path.{_≡_};
 ghost use mathlib.Core.List.{[]};
 ghost use Prim.Native.Nat.{_+_, _*_, _≤_, _<_};
-ghost use mathlib.Core.Bool.{true};
 ghost use lib.ListN.{drop};
 ghost use Rattle.combine.specs.Tests.{both};
-ghost use Rattle.hall.specs.Cells.{t};
-ghost use Rattle.hall.specs.Halls.{valid};
 ghost use Rattle.ports.specs.Codes.{known, allKnown, firstUnknown, up};
 ghost use Rattle.ports.specs.Answers.{checkOf, partRefusal, partOf};
 use crate::codes::HELD;
@@ -167,17 +164,6 @@ pub fn part_refusal(h: Hall, table: &[u8], uid: u32) -> u32
     0
 }
 
-// t(b), the servers of a DCell(b): b is 0 or 1.
-fn local_servers(h: Hall) -> u32
-    requires { ⌜ valid h ≡ true ⌝ }
-    ensures { λ r. ⌜ r ≡ t (h .n) (h .b) ⌝ }
-{
-    if h.b == 0 {
-        return h.n;
-    }
-    (h.n + 1) * h.n
-}
-
 // The part of a hall table that holds a server's DCell(b); empty where it is refused.
 pub fn part_of(h: Hall, table: &[u8], uid: u32) -> &[u8]
     ensures { λ r. ⌜ now r ≡ partOf h (now (table .entry)) uid ⌝ }
@@ -185,7 +171,7 @@ pub fn part_of(h: Hall, table: &[u8], uid: u32) -> &[u8]
     if part_refusal(h, table, uid) != 0 {
         return &table[0..0];
     }
-    let count = local_servers(h);
+    let count = hall::size_of(h, h.b);
     let bytes = bytes_of(count, h.k);
     let from = ((uid / count) as usize) * bytes;
     let to = from + bytes;

@@ -1,12 +1,13 @@
 -- `broadcast::broadcast_rounds` meets its contract: refused, it leaves the room as lent; else the run of the table for the source's DCell(s)
 -- lies within the table, and the rounds over it are the rounds over the hall table.
-use mathlib.Core.Path.{refl, _∙_, sym}
+use mathlib.Core.Path.{_≡_, refl, _∙_, sym}
 use Prim.Native.Nat.{_+_, _-_, _*_}
 use native.Mathlib.Nat.{div-le-self}
 use native.Mathlib.Omega.{arith}
 use borrow.Author.Needs.{needs}
 use Rattle.ports.proofs.Parts.{product-fits}
-use Rattle.broadcast.proofs.Calls.{accepted, answer-refused, room-as-lent, low, size-pos, origin-low, run-ends, run-is, begun-ready, room-long, room-at-exit, answer-is}
+use Rattle.broadcast.specs.Broadcasts.{scopeSize}
+use Rattle.broadcast.proofs.Calls.{scope-size, accepted, answer-refused, room-as-lent, size-pos, origin-low, run-ends, run-is, begun-ready, room-long, room-at-exit, answer-is}
 use Rattle.broadcast.proofs.broadcast_rounds.Statement.{statement}
 use Rattle.broadcast.proofs.broadcast_rounds.Tie as tie
 
@@ -24,12 +25,15 @@ returns c =
       room-as-lent (a .h) (a .table .now) (a .source) (a .scope) (a .room .now) (n .result) (n .ensures) (c .if1 .taken),
     )
 
-scope-size-requires : tie.Need-scope-size-requires
-scope-size-requires c κs =
-    let a = c .before .before .before .before .before .args in
-    let n = c .before .refused in
-    let k = accepted (a .h) (a .table .now) (a .source) (a .scope) (a .room .now) (sym (n .ensures) ∙ c .if1 .left) in
-    (k .sound .is-valid, low (a .h) (a .table .now) (a .source) (a .scope) (a .room .now) k _ refl)
+size-of-requires : tie.Need-size-of-requires
+size-of-requires c κs = search needs
+
+sized : (c : tie.After-size-of) → let a = c .before .before .before .before .before .before .args in c .size-of .result ≡ scopeSize (a .h) (a .scope)
+sized c =
+    let a = c .before .before .before .before .before .before .args in
+    let n = c .before .before .refused in
+    let k = accepted (a .h) (a .table .now) (a .source) (a .scope) (a .room .now) (sym (n .ensures) ∙ c .before .if1 .left) in
+    scope-size (a .h) (a .scope) _ (k .sound .is-valid) (k .scope) (c .size-of .ensures)
 
 cast-bytes : tie.Need-cast-bytes
 cast-bytes c = search needs
@@ -41,50 +45,55 @@ add-bytes : tie.Need-add-bytes
 add-bytes c = search needs
 
 mul-bytes : tie.Need-mul-bytes
-mul-bytes c = omega (arith, product-fits (c .before .scope-size .result) (c .before .before .before .before .before .before .before .args .h .k) (omega arith) (omega arith))
+mul-bytes c = omega (arith, product-fits (c .before .size-of .result) (c .before .before .before .before .before .before .before .args .h .k) (omega arith) (omega arith))
 
 div-from : tie.Need-div-from
 div-from c =
     let a = c .before .before .before .before .before .before .before .args in
     let n = c .before .before .before .refused in
     let k = accepted (a .h) (a .table .now) (a .source) (a .scope) (a .room .now) (sym (n .ensures) ∙ c .before .before .if1 .left) in
-    let z = c .before .scope-size in
-    size-pos (a .h) (a .table .now) (a .source) (a .scope) (a .room .now) k (z .result) (z .ensures)
+    let w = c .before in
+    let z = w .size-of in
+    size-pos (a .h) (a .table .now) (a .source) (a .scope) (a .room .now) k (z .result) (sized w)
 
 cast-from : tie.Need-cast-from
-cast-from c = omega (arith, div-le-self (c .before .before .before .before .before .before .before .args .source) (c .before .scope-size .result))
+cast-from c = omega (arith, div-le-self (c .before .before .before .before .before .before .before .args .source) (c .before .size-of .result))
 
 mul-from : tie.Need-mul-from
 mul-from c =
     let a = c .before .before .before .before .before .before .before .args in
     let n = c .before .before .before .refused in
     let k = accepted (a .h) (a .table .now) (a .source) (a .scope) (a .room .now) (sym (n .ensures) ∙ c .before .before .if1 .left) in
-    let z = c .before .scope-size in
-    omega (arith, run-ends (a .h) (a .table .now) (a .source) (a .scope) (a .room .now) k (z .result) (z .ensures) (z .result * (a .h .k + 1)) refl)
+    let w = c .before in
+    let z = w .size-of in
+    omega (arith, run-ends (a .h) (a .table .now) (a .source) (a .scope) (a .room .now) k (z .result) (sized w) (z .result * (a .h .k + 1)) refl)
 
 add-to : tie.Need-add-to
 add-to c =
     let a = c .before .before .before .before .before .before .before .args in
     let n = c .before .before .before .refused in
     let k = accepted (a .h) (a .table .now) (a .source) (a .scope) (a .room .now) (sym (n .ensures) ∙ c .before .before .if1 .left) in
-    let z = c .before .scope-size in
-    omega (arith, run-ends (a .h) (a .table .now) (a .source) (a .scope) (a .room .now) k (z .result) (z .ensures) (z .result * (a .h .k + 1)) refl)
+    let w = c .before in
+    let z = w .size-of in
+    omega (arith, run-ends (a .h) (a .table .now) (a .source) (a .scope) (a .room .now) k (z .result) (sized w) (z .result * (a .h .k + 1)) refl)
 
 rem-origin : tie.Need-rem-origin
 rem-origin c =
     let a = c .before .before .before .before .before .before .before .args in
     let n = c .before .before .before .refused in
     let k = accepted (a .h) (a .table .now) (a .source) (a .scope) (a .room .now) (sym (n .ensures) ∙ c .before .before .if1 .left) in
-    let z = c .before .scope-size in
-    size-pos (a .h) (a .table .now) (a .source) (a .scope) (a .room .now) k (z .result) (z .ensures)
+    let w = c .before in
+    let z = w .size-of in
+    size-pos (a .h) (a .table .now) (a .source) (a .scope) (a .room .now) k (z .result) (sized w)
 
 begin-requires : tie.Need-begin-requires
 begin-requires c κs =
     let a = c .before .before .before .before .before .before .before .before .args in
     let n = c .before .before .before .before .refused in
     let k = accepted (a .h) (a .table .now) (a .source) (a .scope) (a .room .now) (sym (n .ensures) ∙ c .before .before .before .if1 .left) in
-    let z = c .before .before .scope-size in
-    (rw (z .ensures) (k .long), origin-low (a .h) (a .table .now) (a .source) (a .scope) (a .room .now) k (z .result) (z .ensures))
+    let w = c .before .before in
+    let z = w .size-of in
+    (rw (sized w) (k .long), origin-low (a .h) (a .table .now) (a .source) (a .scope) (a .room .now) k (z .result) (sized w))
 
 sub-run : tie.Need-sub-run
 sub-run c = search needs
@@ -97,24 +106,27 @@ part-run-end c =
     let a = c .before .before .before .before .before .before .before .before .before .before .before .args in
     let n = c .before .before .before .before .before .before .before .refused in
     let k = accepted (a .h) (a .table .now) (a .source) (a .scope) (a .room .now) (sym (n .ensures) ∙ c .before .before .before .before .before .before .if1 .left) in
-    let z = c .before .before .before .before .before .scope-size in
-    omega (arith, run-ends (a .h) (a .table .now) (a .source) (a .scope) (a .room .now) k (z .result) (z .ensures) (z .result * (a .h .k + 1)) refl)
+    let w = c .before .before .before .before .before in
+    let z = w .size-of in
+    omega (arith, run-ends (a .h) (a .table .now) (a .source) (a .scope) (a .room .now) k (z .result) (sized w) (z .result * (a .h .k + 1)) refl)
 
 run-requires : tie.Need-run-requires
 run-requires c κs =
     let a = c .before .before .before .before .before .before .before .before .before .before .before .before .before .args in
     let n = c .before .before .before .before .before .before .before .before .before .refused in
     let k = accepted (a .h) (a .table .now) (a .source) (a .scope) (a .room .now) (sym (n .ensures) ∙ c .before .before .before .before .before .before .before .before .if1 .left) in
-    let z = c .before .before .before .before .before .before .before .scope-size in
-    begun-ready (a .h) (a .table .now) (a .source) (a .scope) (a .room .now) k (z .result) (z .ensures) _ (c .before .before .before .before .begin .ensures)
+    let w = c .before .before .before .before .before .before .before in
+    let z = w .size-of in
+    begun-ready (a .h) (a .table .now) (a .source) (a .scope) (a .room .now) k (z .result) (sized w) _ (c .before .before .before .before .begin .ensures)
 
 tally-requires : tie.Need-tally-requires
 tally-requires c κs =
     let a = c .before .before .before .before .before .before .before .before .before .before .before .before .before .before .before .before .before .args in
     let n = c .before .before .before .before .before .before .before .before .before .before .before .before .before .refused in
     let k = accepted (a .h) (a .table .now) (a .source) (a .scope) (a .room .now) (sym (n .ensures) ∙ c .before .before .before .before .before .before .before .before .before .before .before .before .if1 .left) in
-    let z = c .before .before .before .before .before .before .before .before .before .before .before .scope-size in
-    room-long (a .h) (a .table .now) (a .source) (a .scope) (a .room .now) k (z .result) (z .ensures) _ (c .before .before .before .before .before .before .before .before .begin .ensures) _ (run-is (a .h) (a .table .now) (a .source) (a .scope) (a .room .now) k (z .result) (z .ensures) (z .result * (a .h .k + 1)) refl) _ (c .before .before .before .run .ensures)
+    let w = c .before .before .before .before .before .before .before .before .before .before .before in
+    let z = w .size-of in
+    room-long (a .h) (a .table .now) (a .source) (a .scope) (a .room .now) k (z .result) (sized w) _ (c .before .before .before .before .before .before .before .before .begin .ensures) _ (run-is (a .h) (a .table .now) (a .source) (a .scope) (a .room .now) k (z .result) (sized w) (z .result * (a .h .k + 1)) refl) _ (c .before .before .before .run .ensures)
 
 same-length-2 : tie.Need-same-length-2
 same-length-2 c = search needs
@@ -124,9 +136,10 @@ returns-2 c =
     let a = c .before .before .before .before .before .before .before .before .before .before .before .before .before .before .before .before .before .before .args in
     let n = c .before .before .before .before .before .before .before .before .before .before .before .before .before .before .refused in
     let k = accepted (a .h) (a .table .now) (a .source) (a .scope) (a .room .now) (sym (n .ensures) ∙ c .before .before .before .before .before .before .before .before .before .before .before .before .before .if1 .left) in
-    let z = c .before .before .before .before .before .before .before .before .before .before .before .before .scope-size in (
-      answer-is (a .h) (a .table .now) (a .source) (a .scope) (a .room .now) k (z .result) (z .ensures) _ (c .before .before .before .before .before .before .before .before .before .begin .ensures) _ (run-is (a .h) (a .table .now) (a .source) (a .scope) (a .room .now) k (z .result) (z .ensures) (z .result * (a .h .k + 1)) refl) _ (c .before .before .before .before .run .ensures) (n .result) (n .ensures) (c .before .before .before .before .before .before .before .before .before .before .before .before .before .if1 .left) (c .tally .result) (c .tally .ensures),
-      room-at-exit (a .h) (a .table .now) (a .source) (a .scope) (a .room .now) k (z .result) (z .ensures) _ (c .before .before .before .before .before .before .before .before .before .begin .ensures) _ (run-is (a .h) (a .table .now) (a .source) (a .scope) (a .room .now) k (z .result) (z .ensures) (z .result * (a .h .k + 1)) refl) _ (c .before .before .before .before .run .ensures) (n .result) (n .ensures) (c .before .before .before .before .before .before .before .before .before .before .before .before .before .if1 .left),
+    let w = c .before .before .before .before .before .before .before .before .before .before .before .before in
+    let z = w .size-of in (
+      answer-is (a .h) (a .table .now) (a .source) (a .scope) (a .room .now) k (z .result) (sized w) _ (c .before .before .before .before .before .before .before .before .before .begin .ensures) _ (run-is (a .h) (a .table .now) (a .source) (a .scope) (a .room .now) k (z .result) (sized w) (z .result * (a .h .k + 1)) refl) _ (c .before .before .before .before .run .ensures) (n .result) (n .ensures) (c .before .before .before .before .before .before .before .before .before .before .before .before .before .if1 .left) (c .tally .result) (c .tally .ensures),
+      room-at-exit (a .h) (a .table .now) (a .source) (a .scope) (a .room .now) k (z .result) (sized w) _ (c .before .before .before .before .before .before .before .before .before .begin .ensures) _ (run-is (a .h) (a .table .now) (a .source) (a .scope) (a .room .now) k (z .result) (sized w) (z .result * (a .h .k + 1)) refl) _ (c .before .before .before .before .run .ensures) (n .result) (n .ensures) (c .before .before .before .before .before .before .before .before .before .before .before .before .before .if1 .left),
     )
 
 pub broadcast-rounds-spec : {M : Type 1} → statement M
@@ -136,7 +149,7 @@ broadcast-rounds-spec =
     refused-requires
     same-length
     returns
-    scope-size-requires
+    size-of-requires
     cast-bytes
     cast-bytes-2
     add-bytes

@@ -1,9 +1,11 @@
 -- `broadcast::refused` meets its contract: the table and the uid are asked first, then the scope, then the room.
-use mathlib.Core.Path.{_∙_, sym}
+use mathlib.Core.Path.{_≡_, _∙_, sym}
 use borrow.Author.Needs.{needs}
 use borrow.Author.Tests.{not-true, not-false}
 use Rattle.ports.proofs.Parts.{sound}
-use Rattle.broadcast.proofs.Refusals.{table-refused, scope-refused, room-refused, not-refused, scope-low}
+use Rattle.broadcast.specs.Broadcasts.{scopeSize}
+use Rattle.broadcast.proofs.Refusals.{table-refused, scope-refused, room-refused, not-refused}
+use Rattle.broadcast.proofs.Calls.{scope-size}
 use Rattle.broadcast.proofs.refused.Statement.{statement}
 use Rattle.broadcast.proofs.refused.Tie as tie
 
@@ -25,12 +27,15 @@ returns-2 c =
     let f = c .before .scope-fits in
     scope-refused (a .h) (a .table .now) (a .source) (a .scope) (a .room .now) k (sym (f .ensures) ∙ not-true (f .result) (c .if2 .taken))
 
-scope-size-requires : tie.Need-scope-size-requires
-scope-size-requires c κs =
-    let a = c .before .before .before .before .before .before .args in
-    let k = sound (a .h) (a .table .now) (a .source) (sym (c .before .before .before .part-refusal .ensures) ∙ c .before .before .if1 .left) in
-    let f = c .before .scope-fits in
-    (k .is-valid, scope-low (a .h) (a .scope) (sym (f .ensures) ∙ not-false (f .result) (c .if2 .left)))
+size-of-requires : tie.Need-size-of-requires
+size-of-requires c κs = search needs
+
+sized : (c : tie.After-size-of) → let a = c .before .before .before .before .before .before .before .args in c .size-of .result ≡ scopeSize (a .h) (a .scope)
+sized c =
+    let a = c .before .before .before .before .before .before .before .args in
+    let k = sound (a .h) (a .table .now) (a .source) (sym (c .before .before .before .before .part-refusal .ensures) ∙ c .before .before .before .if1 .left) in
+    let f = c .before .before .scope-fits in
+    scope-size (a .h) (a .scope) _ (k .is-valid) (sym (f .ensures) ∙ not-false (f .result) (c .before .if2 .left)) (c .size-of .ensures)
 
 cast-if3 : tie.Need-cast-if3
 cast-if3 c = search needs
@@ -41,7 +46,7 @@ returns-3 c =
     let k = sound (a .h) (a .table .now) (a .source) (sym (c .before .before .before .before .before .part-refusal .ensures) ∙ c .before .before .before .before .if1 .left) in
     let f = c .before .before .before .scope-fits in
     room-refused (a .h) (a .table .now) (a .source) (a .scope) (a .room .now) k (sym (f .ensures) ∙ not-false (f .result) (c .before .before .if2 .left))
-    (rw (c .before .scope-size .ensures) at (c .if3 .taken))
+    (rw (sized (c .before)) at (c .if3 .taken))
 
 returns-4 : tie.Need-returns-4
 returns-4 c =
@@ -49,7 +54,7 @@ returns-4 c =
     let k = sound (a .h) (a .table .now) (a .source) (sym (c .before .before .before .before .before .part-refusal .ensures) ∙ c .before .before .before .before .if1 .left) in
     let f = c .before .before .before .scope-fits in
     not-refused (a .h) (a .table .now) (a .source) (a .scope) (a .room .now) k (sym (f .ensures) ∙ not-false (f .result) (c .before .before .if2 .left))
-    (rw (c .before .scope-size .ensures) at (c .if3 .left))
+    (rw (sized (c .before)) at (c .if3 .left))
 
 pub refused-spec : {M : Type 1} → statement M
 refused-spec =
@@ -59,7 +64,7 @@ refused-spec =
     returns
     scope-fits-requires
     returns-2
-    scope-size-requires
+    size-of-requires
     cast-if3
     returns-3
     returns-4)

@@ -3,18 +3,14 @@ use borrow.Author.Needs.{needs}
 use mathlib.Core.Path.{_≡_, refl, sym, _∙_, ap}
 use Prim.Native.Nat.{ℕ, _-_, _<_, _≤_}
 use native.Mathlib.Omega.{arith}
-use lib.ListN.{getD}
 use Rattle.hall.specs.declared.Hall.{Hall}
 use Rattle.hall.specs.Cells.{t, neighbourOver, neighbour}
 use Rattle.hall.specs.Halls.{servers}
-use Rattle.hall.proofs.Growth.{valid-size, sizes-at}
+use Rattle.hall.proofs.Growth.{valid-size, size-of}
 use Rattle.hall.proofs.Links.{neighbour-in}
 use Rattle.cells.proofs.Asks.{SoundLevel, level-known, refused-test, sound-test}
 use Rattle.cells.proofs.neighbour_of.Statement.{statement}
 use Rattle.cells.proofs.neighbour_of.Tie as tie
-
-sizes-of-requires : tie.Need-sizes-of-requires
-sizes-of-requires c κs = search needs
 
 refused-level-requires : tie.Need-refused-level-requires
 refused-level-requires c κs = search needs
@@ -22,23 +18,17 @@ refused-level-requires c κs = search needs
 returns : tie.Need-returns
 returns c = let r = c .before .refused-level in rw (refused-test (r .ensures) (c .if1 .taken), ← r .ensures)
 
-known : (c : tie.Else1) → let a = c .before .before .before .args in SoundLevel (a .h) (a .uid) 1 (a .level)
+known : (c : tie.Else1) → let a = c .before .before .args in SoundLevel (a .h) (a .uid) 1 (a .level)
 known c = level-known _ _ _ _ (sym (c .before .refused-level .ensures) ∙ c .if1 .left)
 
-sized : (c : tie.Else1) → let a = c .before .before .before .args in getD (c .before .before .sizes-of .result .t) (a .level - 1) 0 ≡ t (a .h .n) (a .level - 1)
-sized c = let k = known c in sizes-at _ _ (c .before .before .sizes-of .ensures) (k .sound) _ (omega (arith, k .high))
+sub-size-of : tie.Need-sub-size-of
+sub-size-of c = omega (arith, known c .low)
 
-sub-neighbour-over : tie.Need-sub-neighbour-over
-sub-neighbour-over c = let k = known (c .before) in omega (arith, k .low)
+size-of-requires : tie.Need-size-of-requires
+size-of-requires c κs = search needs
 
-cast-neighbour-over : tie.Need-cast-neighbour-over
-cast-neighbour-over c = search needs
-
-mul-neighbour-over : tie.Need-mul-neighbour-over
-mul-neighbour-over c = search needs
-
-array-read-neighbour-over : tie.Need-array-read-neighbour-over
-array-read-neighbour-over c = let k = known (c .before) in omega (arith, k .high, k .known .k-high)
+sized : (c : tie.After-size-of) → let a = c .before .before .before .args in c .size-of .result ≡ t (a .h .n) (a .level - 1)
+sized c = let k = known (c .before) in size-of _ _ _ (k .sound) (omega (arith, k .high)) (c .size-of .ensures)
 
 neighbour-over-requires : tie.Need-neighbour-over-requires
 neighbour-over-requires c κs = search needs
@@ -54,13 +44,13 @@ fits h u i r k e =
     let b = neighbour-in (h .n) (omega (arith, k .known .n-low)) (i - 1) (h .k) u (omega (arith, k .low, k .high)) (k .below) in
     omega (arith, valid-size h (k .known) (h .k) (omega arith))
 
-joined : (c : tie.After-neighbour-over) → let a = c .before .before .before .before .before .args in c .neighbour-over .result ≡ neighbour (a .h .n) (a .level - 1) (a .uid)
-joined c = let a = c .before .before .before .before .before .args in
-    is-neighbour (a .h .n) (a .uid) (a .level) _ _ (sized (c .before .before)) (c .neighbour-over .ensures)
+joined : (c : tie.After-neighbour-over) → let a = c .before .before .before .before .args in c .neighbour-over .result ≡ neighbour (a .h .n) (a .level - 1) (a .uid)
+joined c = let a = c .before .before .before .before .args in
+    is-neighbour (a .h .n) (a .uid) (a .level) _ _ (sized (c .before)) (c .neighbour-over .ensures)
 
-cast-t9 : tie.Need-cast-t9
-cast-t9 c =
-    let a = c .before .before .before .before .before .args in
+cast-t7 : tie.Need-cast-t7
+cast-t7 c =
+    let a = c .before .before .before .before .args in
     let f = fits (a .h) (a .uid) (a .level) _ (known (c .before .before)) (joined c) in
     omega arith
 
@@ -71,13 +61,10 @@ pub neighbour-of-spec : {M : Type 1} → statement M
 neighbour-of-spec =
     tie.close
     (tie.spec
-    sizes-of-requires
     refused-level-requires
     returns
-    sub-neighbour-over
-    cast-neighbour-over
-    mul-neighbour-over
-    array-read-neighbour-over
+    sub-size-of
+    size-of-requires
     neighbour-over-requires
-    cast-t9
+    cast-t7
     returns-2)

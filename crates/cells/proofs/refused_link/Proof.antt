@@ -5,14 +5,13 @@ use mathlib.Core.Bool.{Bool, true, false, not}
 use Prim.Native.Nat.{ℕ, _+_, _-_, _<_, _≤_}
 use native.Mathlib.Omega.{arith}
 use lib.Dec.{eqb, ltb}
-use lib.ListN.{getD}
 use borrow.Author.Tests.{lt-ltb, le-ltb, eq-eqb, ne-eqb}
 use Rattle.combine.specs.Tests.{pick, both}
 use Rattle.combine.proofs.Tests.{both-false}
 use Rattle.hall.specs.declared.Hall.{Hall}
 use Rattle.hall.specs.Refusals.{refusal}
 use Rattle.hall.specs.Cells.{t, g}
-use Rattle.hall.proofs.Growth.{g-at, sizes-at}
+use Rattle.hall.proofs.Growth.{g-at, size-of}
 use Rattle.cells.specs.Answers.{subcellsFit, asksLink}
 use Rattle.cells.proofs.Asks.{SoundLevel, level-known, link-later, link-alone}
 use Rattle.cells.proofs.refused_link.Statement.{statement}
@@ -41,20 +40,14 @@ returns c = link-later _ _ _ _ _ (c .before .refused-level .ensures) (c .if1 .ta
 known : (c : tie.Else1) → SoundLevel (c .before .before .args .h) (c .before .before .args .uid) 1 (c .before .before .args .level)
 known c = level-known _ _ _ _ (sym (c .before .refused-level .ensures) ∙ c .if1 .left)
 
-sized : (c : tie.Else1) → let a = c .before .before .args in getD (a .sizes .t) (a .level - 1) 0 ≡ t (a .h .n) (a .level - 1)
-sized c = let k = known c in sizes-at _ _ (c .before .before .pre) (k .sound) _ (omega (arith, k .high))
+sub-size-of : tie.Need-sub-size-of
+sub-size-of c = omega (arith, known c .low)
 
-sub-below : tie.Need-sub-below
-sub-below c = let k = known (c .before) in omega (arith, k .low)
+size-of-requires : tie.Need-size-of-requires
+size-of-requires c κs = search needs
 
-cast-below : tie.Need-cast-below
-cast-below c = search needs
-
-mul-size : tie.Need-mul-size
-mul-size c = search needs
-
-array-read-size : tie.Need-array-read-size
-array-read-size c = let k = known (c .before) in omega (arith, k .high, k .known .k-high)
+sized : (c : tie.After-size-of) → let a = c .before .before .before .args in c .size-of .result ≡ t (a .h .n) (a .level - 1)
+sized c = let k = known (c .before) in size-of _ _ _ (k .sound) (omega (arith, k .high)) (c .size-of .ensures)
 
 -- where the level is sound the refusal is 3 or 0 by the sub-cells
 decided : (c : tie.Else1) (x : Bool) → subcellsFit (c .before .before .args .h) (c .before .before .args .level) (c .before .before .args .p) (c .before .before .args .q) ≡ x
@@ -65,15 +58,17 @@ decided c x e =
 
 returns-2 : tie.Need-returns-2
 returns-2 c =
-    let e = c .before .before in
+    let z = c .before in
+    let e = z .before in
     let a = e .before .before .args in
-    decided e false (p-high (a .h) (a .level) (a .p) (a .q) _ (known e .low) (sized e) (c .if2 .taken))
+    decided e false (p-high (a .h) (a .level) (a .p) (a .q) _ (known e .low) (sized z) (c .if2 .taken))
 
 returns-3 : tie.Need-returns-3
 returns-3 c =
-    let e = c .before .before .before in
+    let z = c .before .before in
+    let e = z .before in
     let a = e .before .before .args in
-    decided e false (q-high (a .h) (a .level) (a .p) (a .q) _ (known e .low) (sized e) (c .if3 .taken))
+    decided e false (q-high (a .h) (a .level) (a .p) (a .q) _ (known e .low) (sized z) (c .if3 .taken))
 
 returns-4 : tie.Need-returns-4
 returns-4 c =
@@ -83,10 +78,11 @@ returns-4 c =
 
 returns-5 : tie.Need-returns-5
 returns-5 c =
-    let e = c .before .before .before .before in
+    let z = c .before .before .before in
+    let e = z .before in
     let a = e .before .before .args in
     decided e true
-    (two-cells (a .h) (a .level) (a .p) (a .q) _ (known e .low) (sized e) (c .before .before .if2 .left) (c .before .if3 .left) (c .if4 .left))
+    (two-cells (a .h) (a .level) (a .p) (a .q) _ (known e .low) (sized z) (c .before .before .if2 .left) (c .before .if3 .left) (c .if4 .left))
 
 pub refused-link-spec : {M : Type 1} → statement M
 refused-link-spec =
@@ -94,10 +90,8 @@ refused-link-spec =
     (tie.spec
     refused-level-requires
     returns
-    sub-below
-    cast-below
-    mul-size
-    array-read-size
+    sub-size-of
+    size-of-requires
     returns-2
     returns-3
     returns-4

@@ -5,9 +5,6 @@ use Rattle.cells.proofs.Asks.{uid-known, refused-test, sound-test}
 use Rattle.cells.proofs.tuple_of.Statement.{statement}
 use Rattle.cells.proofs.tuple_of.Tie as tie
 
-sizes-of-requires : tie.Need-sizes-of-requires
-sizes-of-requires c κs = search needs
-
 refused-uid-requires : tie.Need-refused-uid-requires
 refused-uid-requires c κs = search needs
 
@@ -24,4 +21,4 @@ returns-2 c = rw (sound-test (c .before .before .refused-uid .ensures) (c .befor
 
 pub tuple-of-spec : {M : Type 1} → statement M
 tuple-of-spec =
-    tie.close (tie.spec sizes-of-requires refused-uid-requires returns entries-up-to-requires returns-2)
+    tie.close (tie.spec refused-uid-requires returns entries-up-to-requires returns-2)

@@ -44,6 +44,7 @@ mod sheet_codes;
 mod sheet_packet;
 mod sheet_packet_place;
 mod sheet_place;
+mod size_of;
 mod sizes;
 mod step;
 mod trace;
@@ -80,6 +81,7 @@ pub const CALLS: &[Listed] = &[
     listed::<fits::Fits<false>>(),
     listed::<fits::Fits<true>>(),
     listed::<servers::Servers>(),
+    listed::<size_of::SizeOf>(),
     listed::<route::Route>(),
     listed::<route_links::RouteLinks>(),
     listed::<driver_route::DriverRoute>(),
