@@ -1,10 +1,7 @@
 -- `cells::refused_level` meets its contract: what is refused before the level is refused with it, and then the level decides.
 use borrow.Author.Needs.{needs}
-use borrow.Author.Tests.{lt-leb, le-leb, lt-ltb}
 use mathlib.Core.Path.{_≡_, sym, _∙_}
-use Rattle.combine.proofs.Tests.{both-false}
-use Rattle.hall.specs.Refusals.{refusal}
-use Rattle.cells.proofs.Asks.{level-later, level-low, level-high, level-sound, uid-known}
+use Rattle.cells.proofs.Asks.{level-later, level-low, level-high, level-sound}
 use Rattle.cells.proofs.refused_level.Statement.{statement}
 use Rattle.cells.proofs.refused_level.Tie as tie
 
@@ -12,7 +9,7 @@ refused-uid-requires : tie.Need-refused-uid-requires
 refused-uid-requires c κs = search needs
 
 returns : tie.Need-returns
-returns c = level-later _ _ _ _ (c .before .refused-uid .ensures) (c .if1 .taken)
+returns c = let a = c .before .before .args in level-later (a .h) (a .uid) (a .lowest) (a .level) _ (c .before .refused-uid .ensures) (c .if1 .taken)
 
 returns-2 : tie.Need-returns-2
 returns-2 c = let r = c .before .before .refused-uid in level-low _ _ _ _ (sym (r .ensures) ∙ c .before .if1 .left) (c .if2 .taken)

@@ -35,7 +35,7 @@ refused-level-requires : tie.Need-refused-level-requires
 refused-level-requires c κs = search needs
 
 returns : tie.Need-returns
-returns c = link-later _ _ _ _ _ (c .before .refused-level .ensures) (c .if1 .taken)
+returns c = let a = c .before .before .args in link-later (a .h) (a .uid) (a .level) (a .p) (a .q) _ (c .before .refused-level .ensures) (c .if1 .taken)
 
 known : (c : tie.Else1) → SoundLevel (c .before .before .args .h) (c .before .before .args .uid) 1 (c .before .before .args .level)
 known c = level-known _ _ _ _ (sym (c .before .refused-level .ensures) ∙ c .if1 .left)
@@ -53,8 +53,9 @@ sized c = let k = known (c .before) in size-of _ _ _ (k .sound) (omega (arith, k
 decided : (c : tie.Else1) (x : Bool) → subcellsFit (c .before .before .args .h) (c .before .before .args .level) (c .before .before .args .p) (c .before .before .args .q) ≡ x
     → pick x 0 3 ≡ refusal (asksLink (c .before .before .args .h) (c .before .before .args .uid) (c .before .before .args .level) (c .before .before .args .p) (c .before .before .args .q))
 decided c x e =
+    let a = c .before .before .args in
     let z = sym (c .before .refused-level .ensures) ∙ c .if1 .left in
-    sym (link-alone _ _ _ _ z ∙ ap (λ (b : Bool). pick b 0 3) e)
+    sym (link-alone (a .h) (a .uid) (a .level) (a .p) (a .q) z ∙ ap (λ (b : Bool). pick b 0 3) e)
 
 returns-2 : tie.Need-returns-2
 returns-2 c =
