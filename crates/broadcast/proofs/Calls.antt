@@ -1,22 +1,19 @@
 -- Laws of the call: what an input that is not refused is like, and that rounds over the run of the table for the source's DCell(s)
 -- are the rounds over the hall table.
-use mathlib.Core.Path.{_≡_, sym, _∙_, ap}
-use mathlib.Core.Bool.{Bool, true}
+use mathlib.Core.Path.{_≡_, refl, sym, _∙_, ap}
+use mathlib.Core.Bool.{true}
 use mathlib.Core.List.{List, _++_}
 use Prim.Native.Nat.{ℕ, _+_, _-_, _*_, _/_, _%_, _≤_, _<_}
 use native.Mathlib.Nat.{mod-lt}
 use native.Mathlib.Omega.{arith}
-use lib.Dec.{eqb, leb, ltb}
 use lib.ListN.{length, take, drop, replicate, length-set, length-replicate, length-append}
 use lib.Seq.{take-at, drop-at}
 use borrow.Author.Tests.{eqb-true, ne-eqb, leb-true, ltb-true}
-use Rattle.combine.specs.Tests.{pick}
-use Rattle.combine.proofs.Tests.{cases}
 use Rattle.hall.specs.declared.Hall.{Hall}
 use Rattle.hall.specs.Cells.{cell}
 use Rattle.hall.specs.Halls.{valid, servers}
-use Rattle.hall.specs.Refusals.{bad-hall, bad-length, bad-uid, bad-address, short-room}
 use Rattle.hall.specs.Answers.{sizeOf}
+use Rattle.hall.proofs.Asks.{unrefused-hold}
 use Rattle.hall.proofs.Growth.{valid-known, valid-pos, size-of}
 use Rattle.ports.specs.Codes.{tableLength, cellLength, run}
 use Rattle.ports.specs.Links.{joined}
@@ -31,7 +28,7 @@ use Rattle.broadcast.specs.declared.Broadcast.{Broadcast}
 use Rattle.broadcast.specs.Broadcasts.{none, scopeFits, scopeSize, firstIn, linked, rounds, tallyOf, broadcastRefusal, broadcastOf, roomOf}
 use Rattle.broadcast.specs.Sweeps.{RoundFits, Ready}
 use Rattle.broadcast.proofs.Reaches.{scope-fits}
-use Rattle.broadcast.proofs.Refusals.{tests, scope-low, scope-two}
+use Rattle.broadcast.proofs.Refusals.{scope-low, scope-two}
 
 -- the size that the code works out is that of the scope's DCell
 pub scope-size : (h : Hall) (s size : ℕ) → valid h ≡ true → scopeFits h s ≡ true → size ≡ sizeOf h s → size ≡ scopeSize h s
@@ -47,22 +44,12 @@ pub record Accepted (h : Hall) (table : List ℕ) (u s : ℕ) (room : List ℕ) 
 module _ (h : Hall) (table : List ℕ) (u s : ℕ) (room : List ℕ) where
   pub accepted : broadcastRefusal h table u s room ≡ 0 → Accepted h table u s room
   accepted e =
-      let l : Bool = eqb (length table) (tableLength h) in
-      let b : Bool = ltb u (servers h) in
-      let f : Bool = scopeFits h s in
-      let g : Bool = leb (scopeSize h s) (length room) in
-      let p : pick (valid h) (pick l (pick b (pick f (pick g 0 short-room) bad-address) bad-uid) bad-length) bad-hall ≡ 0 = sym (tests h table u s room) ∙ e in
-      cases (valid h)
-      (λ v. cases l
-      (λ w. cases b
-      (λ x. cases f
-      (λ y. cases g
-      (λ z. record { sound = record { is-valid = v; long = eqb-true (length table) (tableLength h) w; below = ltb-true u (servers h) x }; scope = y; long = leb-true (scopeSize h s) (length room) z })
-      (λ z. let q : 6 ≡ 0 = rw (v, w, x, y, z) at p in absurd (omega arith)))
-      (λ y. let q : 11 ≡ 0 = rw (v, w, x, y) at p in absurd (omega arith)))
-      (λ x. let q : 2 ≡ 0 = rw (v, w, x) at p in absurd (omega arith)))
-      (λ w. let q : 4 ≡ 0 = rw (v, w) at p in absurd (omega arith)))
-      (λ v. let q : 1 ≡ 0 = rw v at p in absurd (omega arith))
+      let a = unrefused-hold _ refl e in
+      record {
+        sound = record { is-valid = a .0; long = eqb-true (length table) (tableLength h) (a .1 .0); below = ltb-true u (servers h) (a .1 .1 .0) };
+        scope = a .1 .1 .1 .0;
+        long = leb-true (scopeSize h s) (length room) (a .1 .1 .1 .1 .0);
+      }
 
   -- a refused call
   pub answer-refused : (r : ℕ) → r ≡ broadcastRefusal h table u s room → (r ≡ 0 → ⊥) → _≡_ {A = Broadcast} (record { refusal = r; reached = 0; last = 0 }) (broadcastOf h table u s room)

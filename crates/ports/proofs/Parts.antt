@@ -1,7 +1,7 @@
 -- Laws of parts: the run of a hall table for a DCell lies within the table, and its byte for a place is the hall table's for the server
 -- there; so a link inside the DCell is usable by the run where it is by the hall table.
 use mathlib.Core.Path.{_≡_, refl, sym, _∙_, ap}
-use mathlib.Core.Bool.{Bool, true, false}
+use mathlib.Core.Bool.{true, false}
 use mathlib.Core.List.{List, [], _∷_}
 use mathlib.Core.Logic.{⊎-elim}
 use Prim.Native.Nat.{ℕ, zero, suc, _+_, _-_, _*_, _/_, _%_, _≤_, _<_}
@@ -14,37 +14,14 @@ use Rattle.combine.specs.Tests.{pick, both}
 use Rattle.combine.proofs.Tests.{cases, never}
 use Rattle.hall.specs.declared.Hall.{Hall}
 use Rattle.hall.specs.Cells.{t, cell}
-use Rattle.hall.specs.Halls.{valid, servers}
-use Rattle.hall.specs.Refusals.{refusal, bad-hall, bad-length, bad-uid, bad-code}
+use Rattle.hall.specs.Halls.{valid, servers, asksHall, asksUid}
+use Rattle.hall.specs.Refusals.{refusal, inOrder, bad-hall, bad-length, bad-uid, bad-code}
+use Rattle.hall.proofs.Asks.{refusal-in-order, unrefused-hold}
 use Rattle.hall.proofs.Growth.{Valid, valid-known, valid-pos, valid-size}
 use Rattle.ports.specs.Codes.{allKnown, firstUnknown, codeOf, up, tableLength, cellLength, run}
-use Rattle.ports.specs.Answers.{checkOf, partRefusal, partOf}
+use Rattle.ports.specs.Answers.{asksTable, checkOf, partRefusal, partOf}
 use Rattle.ports.specs.declared.TableCheck.{TableCheck}
 use Rattle.ports.proofs.Tables.{all-known, some-unknown}
-
--- what a call on a hall table and a uid refuses, by its three tests
-pub refused-uid : (a b c : Bool) → refusal ((bad-hall, a) ∷ (bad-length, b) ∷ (bad-uid, c) ∷ []) ≡ pick a (pick b (pick c 0 bad-uid) bad-length) bad-hall
-unfolding refusal
-refused-uid true true true = refl
-refused-uid true true false = refl
-refused-uid true false true = refl
-refused-uid true false false = refl
-refused-uid false true true = refl
-refused-uid false true false = refl
-refused-uid false false true = refl
-refused-uid false false false = refl
-
--- what the table check refuses, by its three tests
-pub refused-code : (a b c : Bool) → refusal ((bad-hall, a) ∷ (bad-length, b) ∷ (bad-code, c) ∷ []) ≡ pick a (pick b (pick c 0 bad-code) bad-length) bad-hall
-unfolding refusal
-refused-code true true true = refl
-refused-code true true false = refl
-refused-code true false true = refl
-refused-code true false false = refl
-refused-code false true true = refl
-refused-code false true false = refl
-refused-code false false true = refl
-refused-code false false false = refl
 
 -- a valid hall has servers, and one that is not has none to show
 module _ (h : Hall) (r : ℕ) (e : r ≡ pick (valid h) (servers h) 0) where
@@ -73,16 +50,8 @@ pub record Sound (h : Hall) (table : List ℕ) (u : ℕ) : Type 0 where
 
 pub sound : (h : Hall) (table : List ℕ) (u : ℕ) → partRefusal h table u ≡ 0 → Sound h table u
 sound h table u e =
-    let l : Bool = eqb (length table) (tableLength h) in
-    let d : Bool = ltb u (servers h) in
-    let p : pick (valid h) (pick l (pick d 0 bad-uid) bad-length) bad-hall ≡ 0 = sym (refused-uid (valid h) l d) ∙ e in
-    cases (valid h)
-    (λ v. cases l
-    (λ w. cases d
-    (λ x. record { is-valid = v; long = eqb-true (length table) (tableLength h) w; below = ltb-true u (servers h) x })
-    (λ x. let q : 2 ≡ 0 = rw (v, w, x) at p in absurd (omega arith)))
-    (λ w. let q : 4 ≡ 0 = rw (v, w) at p in absurd (omega arith)))
-    (λ v. let q : 1 ≡ 0 = rw v at p in absurd (omega arith))
+    let a = unrefused-hold (asksHall h ∷ asksTable h table ∷ asksUid h u ∷ []) refl e in
+    record { is-valid = a .0; long = eqb-true (length table) (tableLength h) (a .1 .0); below = ltb-true u (servers h) (a .1 .1 .0) }
 
 -- a DCell is a whole number of DCells of each level below its own
 pub t-whole : (n i j : ℕ) → i ≤ j → (m : ℕ) × (t n j ≡ m * t n i)
@@ -126,37 +95,46 @@ table-fits h v =
 
 -- the four answers of the table check
 module _ (h : Hall) (table : List ℕ) where
+  check-asks : refusal (asksHall h ∷ asksTable h table ∷ (bad-code, allKnown table) ∷ [])
+      ≡ pick (valid h) (pick (eqb (length table) (tableLength h)) (pick (allKnown table) 0 bad-code) bad-length) bad-hall
+  unfolding inOrder
+  check-asks = refusal-in-order (asksHall h ∷ asksTable h table ∷ (bad-code, allKnown table) ∷ []) refl
+
   pub check-hall : valid h ≡ false → _≡_ {A = TableCheck} (record { refusal = 1; place = 0 }) (checkOf h table)
-  check-hall v = rw (refused-code (valid h) (eqb (length table) (tableLength h)) (allKnown table), v)
+  check-hall v = rw (check-asks, v)
 
   pub check-length : valid h ≡ true → (length table ≡ tableLength h → ⊥) → _≡_ {A = TableCheck} (record { refusal = 4; place = 0 }) (checkOf h table)
-  check-length v l = rw (refused-code (valid h) (eqb (length table) (tableLength h)) (allKnown table), v, ne-eqb (length table) (tableLength h) l)
+  check-length v l = rw (check-asks, v, ne-eqb (length table) (tableLength h) l)
 
   pub check-code : valid h ≡ true → length table ≡ tableLength h → (i : ℕ) → i ≡ firstUnknown table → i < length table
       → _≡_ {A = TableCheck} (record { refusal = 5; place = i }) (checkOf h table)
   check-code v l i e b =
       let f = some-unknown table (rw e at b) in
-      rw (refused-code (valid h) (eqb (length table) (tableLength h)) (allKnown table), v, eq-eqb (length table) (tableLength h) l, f, e)
+      rw (check-asks, v, eq-eqb (length table) (tableLength h) l, f, e)
 
   pub check-good : valid h ≡ true → length table ≡ tableLength h → (i : ℕ) → i ≡ firstUnknown table → length table ≤ i
       → _≡_ {A = TableCheck} (record { refusal = 0; place = 0 }) (checkOf h table)
   check-good v l i e b =
       let f = all-known table (rw e at b) in
-      rw (refused-code (valid h) (eqb (length table) (tableLength h)) (allKnown table), v, eq-eqb (length table) (tableLength h) l, f)
+      rw (check-asks, v, eq-eqb (length table) (tableLength h) l, f)
 
   -- the four answers on a uid
   module _ (u : ℕ) where
+    part-asks : partRefusal h table u ≡ pick (valid h) (pick (eqb (length table) (tableLength h)) (pick (ltb u (servers h)) 0 bad-uid) bad-length) bad-hall
+    unfolding inOrder
+    part-asks = refusal-in-order (asksHall h ∷ asksTable h table ∷ asksUid h u ∷ []) refl
+
     pub part-hall : valid h ≡ false → 1 ≡ partRefusal h table u
-    part-hall v = rw (refused-uid (valid h) (eqb (length table) (tableLength h)) (ltb u (servers h)), v)
+    part-hall v = rw (part-asks, v)
 
     pub part-length : valid h ≡ true → (length table ≡ tableLength h → ⊥) → 4 ≡ partRefusal h table u
-    part-length v l = rw (refused-uid (valid h) (eqb (length table) (tableLength h)) (ltb u (servers h)), v, ne-eqb (length table) (tableLength h) l)
+    part-length v l = rw (part-asks, v, ne-eqb (length table) (tableLength h) l)
 
     pub part-uid : valid h ≡ true → length table ≡ tableLength h → servers h ≤ u → 2 ≡ partRefusal h table u
-    part-uid v l b = rw (refused-uid (valid h) (eqb (length table) (tableLength h)) (ltb u (servers h)), v, eq-eqb (length table) (tableLength h) l, le-ltb u (servers h) b)
+    part-uid v l b = rw (part-asks, v, eq-eqb (length table) (tableLength h) l, le-ltb u (servers h) b)
 
     pub part-good : valid h ≡ true → length table ≡ tableLength h → u < servers h → 0 ≡ partRefusal h table u
-    part-good v l b = rw (refused-uid (valid h) (eqb (length table) (tableLength h)) (ltb u (servers h)), v, eq-eqb (length table) (tableLength h) l, lt-ltb u (servers h) b)
+    part-good v l b = rw (part-asks, v, eq-eqb (length table) (tableLength h) l, lt-ltb u (servers h) b)
 
     -- a part that is refused is empty
     pub part-empty : (r : ℕ) → r ≡ partRefusal h table u → (r ≡ 0 → ⊥) → [] ≡ partOf h table u

@@ -23,9 +23,9 @@ scope-fits-requires c κs = search needs
 returns-2 : tie.Need-returns-2
 returns-2 c =
     let a = c .before .before .before .before .before .before .args in
-    let k = sound (a .h) (a .table .now) (a .source) (sym (c .before .before .before .part-refusal .ensures) ∙ c .before .before .if1 .left) in
+    let z = sym (c .before .before .before .part-refusal .ensures) ∙ c .before .before .if1 .left in
     let f = c .before .scope-fits in
-    scope-refused (a .h) (a .table .now) (a .source) (a .scope) (a .room .now) k (sym (f .ensures) ∙ not-true (f .result) (c .if2 .taken))
+    scope-refused (a .h) (a .table .now) (a .source) (a .scope) (a .room .now) z (sym (f .ensures) ∙ not-true (f .result) (c .if2 .taken))
 
 size-of-requires : tie.Need-size-of-requires
 size-of-requires c κs = search needs
@@ -43,17 +43,17 @@ cast-if3 c = search needs
 returns-3 : tie.Need-returns-3
 returns-3 c =
     let a = c .before .before .before .before .before .before .before .before .args in
-    let k = sound (a .h) (a .table .now) (a .source) (sym (c .before .before .before .before .before .part-refusal .ensures) ∙ c .before .before .before .before .if1 .left) in
+    let z = sym (c .before .before .before .before .before .part-refusal .ensures) ∙ c .before .before .before .before .if1 .left in
     let f = c .before .before .before .scope-fits in
-    room-refused (a .h) (a .table .now) (a .source) (a .scope) (a .room .now) k (sym (f .ensures) ∙ not-false (f .result) (c .before .before .if2 .left))
+    room-refused (a .h) (a .table .now) (a .source) (a .scope) (a .room .now) z (sym (f .ensures) ∙ not-false (f .result) (c .before .before .if2 .left))
     (rw (sized (c .before)) at (c .if3 .taken))
 
 returns-4 : tie.Need-returns-4
 returns-4 c =
     let a = c .before .before .before .before .before .before .before .before .args in
-    let k = sound (a .h) (a .table .now) (a .source) (sym (c .before .before .before .before .before .part-refusal .ensures) ∙ c .before .before .before .before .if1 .left) in
+    let z = sym (c .before .before .before .before .before .part-refusal .ensures) ∙ c .before .before .before .before .if1 .left in
     let f = c .before .before .before .scope-fits in
-    not-refused (a .h) (a .table .now) (a .source) (a .scope) (a .room .now) k (sym (f .ensures) ∙ not-false (f .result) (c .before .before .if2 .left))
+    not-refused (a .h) (a .table .now) (a .source) (a .scope) (a .room .now) z (sym (f .ensures) ∙ not-false (f .result) (c .before .before .if2 .left))
     (rw (sized (c .before)) at (c .if3 .left))
 
 pub refused-spec : {M : Type 1} → statement M
