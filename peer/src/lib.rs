@@ -13,6 +13,7 @@ pub mod refusal;
 pub mod report;
 pub mod route;
 pub mod sheet;
+pub mod words;
 
 #[cfg(test)]
 mod any_input;

@@ -240,6 +240,20 @@ mod foreign {
         ) -> bool;
         pub fn calls_complement(sum: u64) -> u32;
         pub fn calls_word_at(sheet: *const u8, bytes: usize, at: usize) -> u32;
+        pub fn calls_put_words(
+            room: *mut u8,
+            length: usize,
+            at: usize,
+            words: *const u32,
+            count: usize,
+        );
+        pub fn calls_put_bytes(
+            room: *mut u8,
+            length: usize,
+            at: usize,
+            bytes: *const u8,
+            count: usize,
+        );
     }
 
     #[link(name = "calls_sheets", kind = "static")]
@@ -470,6 +484,18 @@ pub fn complement(sum: u64) -> u32 {
 /// The number in four bytes of a sheet, 0 where they are not there.
 pub fn word_at(sheet: &[u8], at: usize) -> u32 {
     unsafe { foreign::calls_word_at(sheet.as_ptr(), sheet.len(), at) }
+}
+
+/// Words put from a place of the room on, where they all fit.
+pub fn put_words(room: &mut [u8], at: usize, words: &[u32]) {
+    let (given, count) = (words.as_ptr(), words.len());
+    unsafe { foreign::calls_put_words(room.as_mut_ptr(), room.len(), at, given, count) }
+}
+
+/// Bytes put from a place of the room on, where they all fit.
+pub fn put_bytes(room: &mut [u8], at: usize, bytes: &[u8]) {
+    let (given, count) = (bytes.as_ptr(), bytes.len());
+    unsafe { foreign::calls_put_bytes(room.as_mut_ptr(), room.len(), at, given, count) }
 }
 
 /// The uids of the route from x to y, zeros behind them.

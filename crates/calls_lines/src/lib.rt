@@ -2,7 +2,8 @@
 ghost use mathlib.Core.Path.{_≡_};
 ghost use Rattle.sheet.specs.Answers.{sheetOf};
 ghost use Rattle.report.specs.Texts.{hallLine, refusedLine, endLine, packetLine};
-ghost use Rattle.report.specs.Rooms.{writtenOf, roomOf};
+ghost use Rattle.words.specs.Rooms.{roomOf};
+ghost use Rattle.report.specs.Rooms.{writtenOf};
 ghost use Rattle.lines.specs.Traces.{openingText, journeyText, journeyRefusal, unlessWritten, unlessRoom, pieceOf, roomPiece};
 ghost use Rattle.hall.specs.Halls.{hallOf};
 ghost use Rattle.calls_lines.specs.Outcomes.{reportOf, endOf, nextTold, endTold};

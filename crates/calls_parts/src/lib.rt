@@ -8,6 +8,8 @@ ghost use Rattle.ports.specs.Codes.{known, firstUnknown, up};
 ghost use Rattle.frame.specs.Addresses.{addressesFit};
 ghost use Rattle.frame.specs.Checksum.{folded};
 ghost use Rattle.sheet.specs.Formats.{wordAt};
+ghost use Rattle.words.specs.Words.{wordsBytes};
+ghost use Rattle.words.specs.Rooms.{roomOf};
 ghost use Rattle.hall.specs.Rooms.{told, written};
 ghost use Rattle.hall.specs.Halls.{hallOf};
 ghost use Rattle.calls_parts.specs.Outcomes.{ofFirstLink};
@@ -108,4 +110,18 @@ pub extern "C" fn calls_word_at(sheet: &[u8], at: usize) -> u32
     ensures { λ r. ⌜ r ≡ wordAt (now (sheet .entry)) at ⌝ }
 {
     sheet::word_at(sheet, at)
+}
+
+#[no_mangle]
+pub extern "C" fn calls_put_words(room: &mut [u8], at: usize, words: &[u32])
+    ensures { λ _. ⌜ now (room .exit) ≡ roomOf (now (room .entry)) at (wordsBytes (now (words .entry))) ⌝ }
+{
+    words::put_words(room, at, words);
+}
+
+#[no_mangle]
+pub extern "C" fn calls_put_bytes(room: &mut [u8], at: usize, bytes: &[u8])
+    ensures { λ _. ⌜ now (room .exit) ≡ roomOf (now (room .entry)) at (now (bytes .entry)) ⌝ }
+{
+    words::put_bytes(room, at, bytes);
 }

@@ -1,3 +1,2 @@
 -- What each call for the driver returns, and the bytes that it leaves in its room.
-pub mod Words
 pub mod Outcomes

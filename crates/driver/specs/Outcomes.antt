@@ -11,7 +11,7 @@ use Rattle.frame.specs.declared.Header.{Header}
 use Rattle.header.specs.declared.Fields.{Fields}
 use Rattle.forward.specs.declared.Step.{Step}
 use Rattle.hall.specs.Rooms.{Outcome}
-use Rattle.driver.specs.Words.{bytesOf}
+use Rattle.words.specs.Words.{wordsBytes}
 
 -- 1 for true, 0 for false
 abbrev pub flagOf : Bool → ℕ
@@ -19,13 +19,13 @@ flagOf b = pick b 1 0
 
 -- a route: its links + 1 uids, without the zeros
 abbrev pub ofRoute : Route → Outcome
-ofRoute a = (a .refusal, bytesOf (take (a .links + 1) (a .uids)))
+ofRoute a = (a .refusal, wordsBytes (take (a .links + 1) (a .uids)))
 
 -- a header: its length in bytes, then its fields in order
 abbrev pub ofHeader : Header → Outcome
 ofHeader a = (
   a .refusal,
-  bytesOf (
+  wordsBytes (
       a .«header_length» ∷ a .protocol ∷ a .«payload_length» ∷ a .identification ∷ a .retry ∷ a .ttl ∷ a .source ∷ a .destination
       ∷ flagOf (a .«has_proxy») ∷ a .proxy ∷ []
       ),
@@ -49,7 +49,7 @@ fieldsOf protocol length identification retry ttl source destination flag proxy 
 abbrev pub ofStep : Step → Outcome
 ofStep a = (
   a .refusal,
-  bytesOf (
+  wordsBytes (
       a .ending ∷ a .next ∷ a .packet .dst ∷ flagOf (a .packet .«has_proxy») ∷ a .packet .proxy ∷ a .packet .retry ∷ a .packet .ttl
       ∷ a .reroutes ∷ []
       ),

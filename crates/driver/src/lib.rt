@@ -1,9 +1,5 @@
 // The calls for a driver in C: header, route and step, on plain numbers and byte slices.
 ghost use mathlib.Core.Path.{_≡_};
-ghost use mathlib.Core.List.{_++_};
-ghost use Prim.Native.Nat.{_+_, _*_, _≤_};
-ghost use lib.ListN.{length, drop};
-ghost use lib.Seq.{sets};
 ghost use Rattle.route.specs.Answers.{routeBetween};
 ghost use Rattle.forward.specs.Answers.{stepOf};
 ghost use Rattle.forward.specs.Packets.{packetOf};
@@ -11,40 +7,18 @@ ghost use Rattle.frame.specs.Reading.{readFrame};
 ghost use Rattle.header.specs.Writing.{writeRefusal, roomWritten};
 ghost use Rattle.hall.specs.Halls.{hallOf};
 ghost use Rattle.hall.specs.Rooms.{told, written};
-ghost use Rattle.driver.specs.Words.{bigEndian, bytesOf};
+ghost use Rattle.words.specs.Words.{wordsBytes};
 ghost use Rattle.driver.specs.Outcomes.{flagOf, ofRoute, ofHeader, fieldsOf, ofStep};
 use forward::Packet;
 use hall::Hall;
 use hall::refusals::SHORT_ROOM;
 use header::Fields;
-
-// The four bytes of a word at a place of the room.
-fn put_word(room: &mut [u8], at: usize, w: u32)
-    requires { ⌜ at + 4 ≤ length (now room) ⌝ }
-    ensures { λ _. ⌜ now (room .exit) ≡ sets (now (room .entry)) at (bigEndian w) ⌝ }
-{
-    room[at] = (w / 16777216) as u8;
-    room[at + 1] = (w / 65536 % 256) as u8;
-    room[at + 2] = (w / 256 % 256) as u8;
-    room[at + 3] = (w % 256) as u8;
-}
-
-// The words at the start of the room.
-fn put_words(words: &[u32], room: &mut [u8])
-    requires { ⌜ length (now words) * 4 ≤ length (now room) ⌝ }
-    ensures { λ _. ⌜ now (room .exit) ≡ bytesOf (now (words .entry)) ++ drop (length (now (words .entry)) * 4) (now (room .entry)) ⌝ }
-{
-    let mut i: usize = 0;
-    while i < words.len() {
-        put_word(room, i * 4, words[i]);
-        i += 1;
-    }
-}
+use words::put_words;
 
 // An answer: its refusal, and its words in the room where there is none.
 fn tell(number: u32, words: &[u32], room: &mut [u8]) -> u32
-    ensures number { λ r. ⌜ r ≡ told (number, bytesOf (now (words .entry))) (now (room .entry)) ⌝ }
-    ensures room { λ _. ⌜ now (room .exit) ≡ written (number, bytesOf (now (words .entry))) (now (room .entry)) ⌝ }
+    ensures number { λ r. ⌜ r ≡ told (number, wordsBytes (now (words .entry))) (now (room .entry)) ⌝ }
+    ensures room { λ _. ⌜ now (room .exit) ≡ written (number, wordsBytes (now (words .entry))) (now (room .entry)) ⌝ }
 {
     if number != 0 {
         return number;
@@ -52,7 +26,7 @@ fn tell(number: u32, words: &[u32], room: &mut [u8]) -> u32
     if room.len() / 4 < words.len() {
         return SHORT_ROOM;
     }
-    put_words(words, room);
+    put_words(room, 0, words);
     0
 }
 

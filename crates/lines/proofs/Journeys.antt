@@ -11,7 +11,8 @@ use Rattle.sheetparts.specs.declared.SheetPacket.{SheetPacket}
 use Rattle.sheetparts.specs.Parts.{packetFields}
 use Rattle.report.specs.declared.Written.{Written}
 use Rattle.report.specs.Texts.{packetLine}
-use Rattle.report.specs.Rooms.{writtenOf, roomOf}
+use Rattle.words.specs.Rooms.{roomOf}
+use Rattle.report.specs.Rooms.{writtenOf}
 use Rattle.lines.specs.Traces.{journeyAt, reportOf, journeyText, journeyRefusal, unlessWritten, unlessRoom}
 
 module _ (s : List ℕ) (read : Sheet) (i : ℕ) where

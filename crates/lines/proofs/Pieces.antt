@@ -13,8 +13,9 @@ use Rattle.sheet.specs.declared.Sheet.{Sheet}
 use Rattle.sheet.specs.Answers.{sheetOf, packetPlace}
 use Rattle.sheet.proofs.Held.{accepted-holds, holds-accepted}
 use Rattle.report.specs.declared.Written.{Written}
-use Rattle.report.specs.Rooms.{put, roomy, writtenOf, roomOf}
-use Rattle.report.proofs.Rooms.{put-none, put-put, length-put}
+use Rattle.words.specs.Rooms.{put, roomy, roomOf}
+use Rattle.words.proofs.Rooms.{put-none, put-put, length-put}
+use Rattle.report.specs.Rooms.{writtenOf}
 use Rattle.lines.specs.declared.Piece.{Piece}
 use Rattle.lines.specs.Traces.{lineCount, lineText, linesText, fitting, fittingText, fittingPiece, pieceRefusal, pieceOf, roomPiece}
 use Rattle.lines.proofs.Lines.{lines-none, lines-more, lines-append, fitting-more, fitting-full, fitting-none, fitting-within, fitting-length}

@@ -18,7 +18,8 @@ use Rattle.sheetparts.specs.Parts.{codesPart, packetFields}
 use Rattle.report.specs.declared.Written.{Written}
 use Rattle.report.specs.declared.PacketReport.{PacketReport}
 use Rattle.report.specs.Texts.{hallLine, refusedLine, endLine, packetLine}
-use Rattle.report.specs.Rooms.{put, roomy, writtenOf, roomOf}
+use Rattle.words.specs.Rooms.{put, roomy, roomOf}
+use Rattle.report.specs.Rooms.{writtenOf}
 use Rattle.lines.specs.declared.Piece.{Piece}
 
 -- HALL n k b, or REFUSED number place

@@ -8,7 +8,7 @@ use Rattle.sheet.specs.Formats.{and-then, read}
 use Rattle.sheet.specs.Sheets.{nightSheet}
 use Rattle.sheet.specs.Answers.{sheetOf}
 use Rattle.report.specs.Texts.{digitsWithin, decimal, numberWith, refusedLine}
-use Rattle.report.specs.Rooms.{roomy}
+use Rattle.words.specs.Rooms.{roomy}
 use Rattle.lines.specs.Traces.{openingText, traceText, lineCount, lineText, linesText, fitting, pieceOf}
 
 -- 13 bytes

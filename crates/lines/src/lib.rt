@@ -2,7 +2,8 @@
 ghost use mathlib.Core.Path.{_≡_};
 ghost use Prim.Native.Nat.{_-_, _≤_};
 ghost use lib.ListN.{length};
-ghost use Rattle.report.specs.Rooms.{put, writtenOf, roomOf};
+ghost use Rattle.words.specs.Rooms.{put, roomOf};
+ghost use Rattle.report.specs.Rooms.{writtenOf};
 ghost use Rattle.report.specs.Texts.{packetLine};
 ghost use Rattle.lines.specs.Traces.{openingText, journeyAt, reportOf, journeyText, journeyRefusal, unlessWritten, unlessRoom, lineCount, lineText, fittingText, fittingPiece, pieceOf, roomPiece};
 use forward::Journey;

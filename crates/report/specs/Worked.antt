@@ -7,7 +7,7 @@ use lib.ListN.{replicate}
 use Rattle.hall.specs.Halls.{hallOf}
 use Rattle.forward.specs.Packets.{delivered}
 use Rattle.report.specs.Texts.{digitsWithin, decimal, numberWith, hallLine, refusedLine, endLine, endingText, uidsText, packetHead, packetLine}
-use Rattle.report.specs.Rooms.{roomy}
+use Rattle.words.specs.Rooms.{roomy}
 
 zero-digit : decimal 0 ≡ 48 ∷ []
 unfolding decimal digitsWithin

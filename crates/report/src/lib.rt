@@ -4,7 +4,8 @@ mod puts;
 
 ghost use mathlib.Core.Path.{_≡_};
 ghost use Rattle.report.specs.Texts.{hallLine, refusedLine, endLine, packetLine};
-ghost use Rattle.report.specs.Rooms.{writtenOf, roomOf};
+ghost use Rattle.words.specs.Rooms.{roomOf};
+ghost use Rattle.report.specs.Rooms.{writtenOf};
 use crate::lengths::end_length;
 use crate::lengths::hall_length;
 use crate::lengths::packet_fits;

@@ -3,7 +3,7 @@ ghost use mathlib.Core.Path.{_≡_};
 ghost use Prim.Native.Nat.{_+_, _≤_};
 ghost use lib.ListN.{length, take};
 ghost use Rattle.report.specs.Texts.{decimal, numberWith, endingText, packetHead, uidsText};
-ghost use Rattle.report.specs.Rooms.{put};
+ghost use Rattle.words.specs.Rooms.{put};
 use crate::PacketReport;
 use forward::endings::DELIVERED;
 
@@ -19,12 +19,8 @@ pub(crate) fn put_bytes(room: &mut [u8], at: usize, text: &[u8]) -> usize
     ensures next { λ r. ⌜ r ≡ at + length (now (text .entry)) ⌝ }
     ensures room { λ _. ⌜ now (room .exit) ≡ put (now (room .entry)) at (now (text .entry)) ⌝ }
 {
-    let mut i: usize = 0;
-    while i < text.len() {
-        room[at + i] = text[i];
-        i += 1;
-    }
-    at + i
+    words::put_bytes(room, at, text);
+    at + text.len()
 }
 
 // A number in decimal, from its first digit on.

@@ -5,6 +5,7 @@ ghost use Prim.Native.Nat.{_≤_};
 ghost use lib.ListN.{length, drop};
 ghost use Rattle.hall.specs.Rooms.{told, written};
 use hall::refusals::SHORT_ROOM;
+use words::put_bytes;
 
 // The words at the start of the room.
 fn put(words: &[u32], room: &mut [u32])
@@ -14,18 +15,6 @@ fn put(words: &[u32], room: &mut [u32])
     let mut i: usize = 0;
     while i < words.len() {
         room[i] = words[i];
-        i += 1;
-    }
-}
-
-// The bytes at the start of the room.
-fn put_bytes(bytes: &[u8], room: &mut [u8])
-    requires { ⌜ length (now bytes) ≤ length (now room) ⌝ }
-    ensures { λ _. ⌜ now (room .exit) ≡ now (bytes .entry) ++ drop (length (now (bytes .entry))) (now (room .entry)) ⌝ }
-{
-    let mut i: usize = 0;
-    while i < bytes.len() {
-        room[i] = bytes[i];
         i += 1;
     }
 }
@@ -56,6 +45,6 @@ pub fn tell_bytes(number: u32, bytes: &[u8], room: &mut [u8]) -> u32
     if room.len() < bytes.len() {
         return SHORT_ROOM;
     }
-    put_bytes(bytes, room);
+    put_bytes(room, 0, bytes);
     0
 }

@@ -2,6 +2,7 @@
 use mathlib.Core.Path.{_≡_, refl, sym, _∙_}
 use borrow.Author.Needs.{needs}
 use Rattle.hall.proofs.Told.{told-refused, told-short, told-good, written-refused, written-short, written-good}
+use Rattle.words.proofs.Rooms.{room-start}
 use Rattle.rooms.proofs.tell_bytes.Statement.{statement}
 use Rattle.rooms.proofs.tell_bytes.Tie as tie
 
@@ -21,7 +22,7 @@ returns-3 : tie.Need-returns-3
 returns-3 c =
     let e = c .before .before .before .before .before .if1 .left in
     let h = c .before .before .before .before .if2 .left in
-    (sym (told-good _ _ _ e h), c .before .before .put-bytes .ensures ∙ written-good _ _ _ e h)
+    (sym (told-good _ _ _ e h), c .before .before .put-bytes .ensures ∙ room-start _ _ h ∙ written-good _ _ _ e h)
 
 pub tell-bytes-spec : {M : Type 1} → statement M
 tell-bytes-spec = tie.close (tie.spec returns returns-2 put-bytes-requires same-length returns-3)

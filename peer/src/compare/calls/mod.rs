@@ -34,6 +34,7 @@ mod packet_line;
 mod part;
 mod payload;
 mod program;
+mod put;
 mod read_header;
 mod refused_line;
 mod route;
@@ -113,6 +114,8 @@ pub const CALLS: &[Listed] = &[
     listed::<sheet_packet_place::SheetPacketPlace>(),
     listed::<packet_fields::PacketFields>(),
     listed::<word_at::WordAt>(),
+    listed::<put::Put<u32>>(),
+    listed::<put::Put<u8>>(),
     listed::<opening_line::OpeningLine>(),
     listed::<journey_line::JourneyLine>(),
     listed::<end_line::EndLine>(),

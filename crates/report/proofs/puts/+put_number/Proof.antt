@@ -5,7 +5,7 @@ use native.Mathlib.Omega.{arith}
 use lib.ListN.{length, length-set}
 use Rattle.report.specs.Texts.{decimal}
 use Rattle.report.proofs.Texts.{decimal-small, decimal-more, decimal-more-length}
-use Rattle.report.proofs.Rooms.{put-one, put-byte, length-put}
+use Rattle.words.proofs.Rooms.{put-one, put-byte, length-put}
 use Prim.Native.Nat.{ℕ, _<_}
 use borrow.Fn.Kinds.{In}
 use borrow.Fn.PlainCycle.{Measures, is, falls, and}

@@ -6,8 +6,9 @@ use native.Mathlib.Omega.{arith}
 use lib.ListN.{length, take, getD, length-set}
 use lib.Seq.{append-snoc}
 use Rattle.report.specs.Texts.{decimal, space, uidsText}
-use Rattle.report.specs.Rooms.{put}
-use Rattle.report.proofs.Rooms.{put-none, put-next, byte-next}
+use Rattle.words.specs.Rooms.{put}
+use Rattle.words.proofs.Rooms.{put-none}
+use Rattle.report.proofs.Rooms.{put-next, byte-next}
 use Rattle.report.proofs.Texts.{uids-next, uids-within}
 use Rattle.report.proofs.puts.put_uids.Statement.{statement}
 use Rattle.report.proofs.puts.put_uids.Tie as tie

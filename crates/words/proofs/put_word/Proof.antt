@@ -1,10 +1,18 @@
--- `driver::put_word` meets its contract: four stores, one after another.
+-- `words::put_word` meets its contract: four stores in a row are one store of four bytes.
 use native.Mathlib.Omega.{arith}
-use Rattle.driver.proofs.Bytes.{plus1, plus2, plus3}
+use native.Mathlib.Numerals.{add-one}
+use mathlib.Core.Path.{_≡_}
+use Prim.Native.Nat.{ℕ, suc, _+_}
 use lib.ListN.{length-set}
 use borrow.Author.Needs.{needs}
-use Rattle.driver.proofs.put_word.Statement.{statement}
-use Rattle.driver.proofs.put_word.Tie as tie
+use Rattle.words.proofs.put_word.Statement.{statement}
+use Rattle.words.proofs.put_word.Tie as tie
+
+two : (n : ℕ) → n + 2 ≡ suc (suc n)
+two n = omega arith
+
+three : (n : ℕ) → n + 3 ≡ suc (suc (suc n))
+three n = omega arith
 
 cast-room : tie.Need-cast-room
 cast-room c = search needs
@@ -43,7 +51,7 @@ same-length : tie.Need-same-length
 same-length c = search needs
 
 returns : tie.Need-returns
-returns c = rw (plus1 (c .args .at), plus2 (c .args .at), plus3 (c .args .at))
+returns c = rw (add-one (c .args .at), two (c .args .at), three (c .args .at))
 
 pub put-word-spec : {M : Type 1} → statement M
 put-word-spec =

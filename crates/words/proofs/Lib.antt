@@ -1,0 +1,3 @@
+-- The laws.
+pub mod Rooms
+pub mod Words
