@@ -12,7 +12,7 @@ ghost use Rattle.hall.specs.Cells.{same, neighbour};
 ghost use Rattle.hall.specs.Halls.{valid, asksHall};
 ghost use Rattle.hall.specs.Refusals.{refusal, bad-length};
 ghost use Rattle.route.specs.Answers.{firstLink};
-ghost use Rattle.local.specs.Local.{none, cellSize, placeOf, firstOf};
+ghost use Rattle.local.specs.Local.{none, placeOf, firstOf};
 ghost use Rattle.ports.specs.Codes.{cellLength};
 ghost use Rattle.forward.specs.Packets.{cleared, tidied, proxied, retried, aged, isArrived, goal, sent, ended, counted};
 ghost use Rattle.forward.specs.Seen.{seen, usable};
@@ -204,23 +204,12 @@ fn counted(o: Step) -> Step
     }
 }
 
-// t(b), the servers of a DCell(b).
-fn cell_size(h: Hall) -> u32
-    requires { ⌜ valid h ≡ true ⌝ }
-    ensures { λ r. ⌜ r ≡ cellSize h ⌝ }
-{
-    if h.b == 0 {
-        return h.n;
-    }
-    (h.n + 1) * h.n
-}
-
 // Whether two servers share a DCell(b).
 fn share_cell(h: Hall, x: u32, y: u32) -> bool
     requires { ⌜ valid h ≡ true ⌝ }
     ensures { λ r. ⌜ r ≡ same (h .n) (h .b) x y ⌝ }
 {
-    let count = cell_size(h);
+    let count = hall::size_of(h, h.b);
     x / count == y / count
 }
 
@@ -236,7 +225,7 @@ fn is_usable(h: Hall, table: &[u8], level: u32, near: u32) -> bool
     requires { ⌜ valid h ≡ true ⌝ }
     ensures { λ r. ⌜ r ≡ usable h (now (table .entry)) level (placeOf h near) ⌝ }
 {
-    is_usable_at(h, table, level, near % cell_size(h))
+    is_usable_at(h, table, level, near % hall::size_of(h, h.b))
 }
 
 // The way to a local target.
@@ -366,7 +355,7 @@ fn proxy_of(h: Hall, me: u32, place: u32, level: u32) -> u32
     requires { ⌜ Placed h me place level ⌝ }
     ensures { λ r. ⌜ r ≡ neighbour (h .n) (level - 1) (firstOf h me + place) ⌝ }
 {
-    let first = me - me % cell_size(h);
+    let first = me - me % hall::size_of(h, h.b);
     cells::neighbour_of(h, first + place, level).uid
 }
 
