@@ -17,23 +17,11 @@ use Rattle.hall.specs.Cells.{t, cell}
 use Rattle.hall.specs.Halls.{valid, servers, asksHall, asksUid}
 use Rattle.hall.specs.Refusals.{refusal, inOrder, bad-hall, bad-length, bad-uid, bad-code}
 use Rattle.hall.proofs.Asks.{refusal-in-order, unrefused-hold}
-use Rattle.hall.proofs.Growth.{Valid, valid-known, valid-pos, valid-size}
+use Rattle.hall.proofs.Growth.{Valid, valid-known, valid-pos, valid-size, valid-servers, some-servers}
 use Rattle.ports.specs.Codes.{allKnown, firstUnknown, codeOf, up, tableLength, cellLength, run}
 use Rattle.ports.specs.Answers.{asksTable, checkOf, partRefusal, partOf}
 use Rattle.ports.specs.declared.TableCheck.{TableCheck}
 use Rattle.ports.proofs.Tables.{all-known, some-unknown}
-
--- a valid hall has servers, and one that is not has none to show
-module _ (h : Hall) (r : ℕ) (e : r ≡ pick (valid h) (servers h) 0) where
-  pub valid-servers : valid h ≡ true → r ≡ servers h
-  valid-servers v = e ∙ rw v
-
-  pub some-servers : (r ≡ 0 → ⊥) → valid h ≡ true
-  some-servers ne = cases (valid h) (λ v. v) (λ v. absurd (ne (e ∙ rw v)))
-
-  pub no-servers : r ≡ 0 → valid h ≡ false
-  unfolding servers
-  no-servers z = cases (valid h) (λ v. absurd (omega (arith, valid-servers v, valid-pos h (valid-known h v) (h .k)))) (λ v. v)
 
 -- a product of two 32-bit numbers, the second by one more, leaves room for a third below 2 ^ 64
 pub product-fits : (a b : ℕ) → a < 4294967296 → b < 4294967296 → a * (b + 1) ≤ 18446744069414584320

@@ -3,7 +3,8 @@ use mathlib.Core.Path.{_≡_, sym, _∙_}
 use native.Mathlib.Omega.{arith}
 use borrow.Author.Needs.{needs}
 use Rattle.ports.specs.Codes.{tableLength}
-use Rattle.ports.proofs.Parts.{no-servers, some-servers, bytes-are, table-fits, check-hall, check-length, check-code, check-good}
+use Rattle.hall.proofs.Growth.{no-servers, some-servers}
+use Rattle.ports.proofs.Parts.{bytes-are, table-fits, check-hall, check-length, check-code, check-good}
 use Rattle.ports.proofs.check_table.Statement.{statement}
 use Rattle.ports.proofs.check_table.Tie as tie
 

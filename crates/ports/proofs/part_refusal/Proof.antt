@@ -3,7 +3,8 @@ use mathlib.Core.Path.{_≡_, sym, _∙_}
 use Prim.Native.Nat.{_≤_, _<_}
 use native.Mathlib.Omega.{arith}
 use borrow.Author.Needs.{needs}
-use Rattle.ports.proofs.Parts.{no-servers, some-servers, valid-servers, bytes-are, part-hall, part-length, part-uid, part-good}
+use Rattle.hall.proofs.Growth.{no-servers, some-servers, valid-servers}
+use Rattle.ports.proofs.Parts.{bytes-are, part-hall, part-length, part-uid, part-good}
 use Rattle.ports.proofs.part_refusal.Statement.{statement}
 use Rattle.ports.proofs.part_refusal.Tie as tie
 

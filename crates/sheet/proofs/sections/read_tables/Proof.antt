@@ -3,7 +3,8 @@ use mathlib.Core.Path.{_≡_, sym, _∙_}
 use native.Mathlib.Omega.{arith}
 use Rattle.hall.specs.Halls.{servers}
 use Rattle.ports.specs.Codes.{tableLength}
-use Rattle.ports.proofs.Parts.{valid-servers, product-fits}
+use Rattle.hall.proofs.Growth.{valid-servers}
+use Rattle.ports.proofs.Parts.{product-fits}
 use Rattle.sheet.specs.Sheets.{tablesOf}
 use Rattle.sheet.specs.Formats.{read}
 use Rattle.sheet.proofs.Reading.{read-done, then-value, then-refused, next-within}
