@@ -36,12 +36,16 @@ asksPacket h me p = asksUid h me ∷ asksUid h (p .dst) ∷ asksProxy h p ∷ as
 abbrev pub noPacket : Packet
 noPacket = unproxied 0 0 0
 
+-- a step that is refused: zeros behind the number
+abbrev pub refusedStep : ℕ → Step
+refusedStep number = record { refusal = number; ending = 0; next = 0; packet = noPacket; reroutes = 0 }
+
 -- one step at a server, over the lent table of its own DCell(b)
 abbrev pub stepOf : Hall → ℕ → Packet → List ℕ → Step
 stepOf h me p table =
     answered (refusal (asksHall h ∷ asksCell h table ∷ asksPacket h me p))
     (step h table me p)
-    (λ number. record { refusal = number; ending = 0; next = 0; packet = noPacket; reroutes = 0 })
+    refusedStep
 
 -- the uids passed, zeros behind them
 unfoldable pub passed : List ℕ → List ℕ
@@ -50,9 +54,13 @@ passed uids = uids ++ replicate (most-passed - length uids) 0
 abbrev pub journeyFrom : Trip → Journey
 journeyFrom j = record { refusal = 0; ending = j .ending; links = j .links; reroutes = j .reroutes; uids = passed (j .uids) }
 
+-- a journey that is refused: zeros behind the number
+abbrev pub refusedJourney : ℕ → Journey
+refusedJourney number = record { refusal = number; ending = 0; links = 0; reroutes = 0; uids = replicate most-passed 0 }
+
 -- a journey from a source, over the hall table
 abbrev pub journeyOf : Hall → ℕ → Packet → List ℕ → Journey
 journeyOf h source p table =
     answered (refusal (asksHall h ∷ asksTable h table ∷ asksPacket h source p))
     (journeyFrom (trip h table source p))
-    (λ number. record { refusal = number; ending = 0; links = 0; reroutes = 0; uids = replicate most-passed 0 })
+    refusedJourney

@@ -4,22 +4,21 @@ pub mod endings;
 ghost use mathlib.Core.Path.{_≡_};
 ghost use mathlib.Core.Bool.{true, not};
 ghost use mathlib.Core.List.{_∷_};
-ghost use Prim.Native.Nat.{ℕ, _+_, _-_, _≤_, _<_};
+ghost use Prim.Native.Nat.{ℕ, _+_, _-_, _*_, _≤_, _<_};
 ghost use lib.Dec.{eqb, ltb};
 ghost use lib.ListN.{length, getD, replicate};
 ghost use Rattle.combine.specs.Tests.{pick, both, either};
 ghost use Rattle.hall.specs.Cells.{same, neighbour};
-ghost use Rattle.hall.specs.Halls.{valid, asksHall};
+ghost use Rattle.hall.specs.Halls.{valid};
 ghost use Rattle.hall.specs.Refusals.{refusal, bad-length};
 ghost use Rattle.route.specs.Answers.{firstLink};
 ghost use Rattle.local.specs.Local.{none, placeOf, firstOf};
-ghost use Rattle.ports.specs.Codes.{cellLength};
 ghost use Rattle.forward.specs.Packets.{cleared, tidied, proxied, retried, aged, isArrived, goal, sent, ended, counted};
 ghost use Rattle.forward.specs.Seen.{seen, usable};
 ghost use Rattle.forward.specs.Proxies.{choice};
 ghost use Rattle.forward.specs.Steps.{stepFrom, rerouteOn, step};
 ghost use Rattle.forward.specs.Journeys.{trip};
-ghost use Rattle.forward.specs.Answers.{asksPacket, most-passed, noPacket, stepOf, journeyFrom, journeyOf};
+ghost use Rattle.forward.specs.Answers.{most-passed, refusedStep, stepOf, journeyFrom, refusedJourney, journeyOf};
 ghost use Rattle.forward.specs.Inside.{Here, Target, Ahead, Standing, Stopped, Placed, Sound, Departing, wayTo, wayOver, asksBelow};
 use crate::endings::DELIVERED;
 use crate::endings::DROP_PROXY;
@@ -28,6 +27,7 @@ use crate::endings::DROP_ROUTE;
 use crate::endings::DROP_TTL;
 use crate::endings::FORWARDED;
 use hall::Hall;
+use hall::refusals::BAD_HALL;
 use hall::refusals::BAD_HEADER;
 use hall::refusals::BAD_LENGTH;
 use hall::refusals::BAD_UID;
@@ -460,35 +460,39 @@ fn refused_packet(servers: u32, uid: u32, p: Packet) -> u32
     0
 }
 
-// The refusal for a hall, the table of a DCell of some level, and a packet at a server; 0 for none.
-fn refused(h: Hall, level: u32, table: &[u8], uid: u32, p: Packet) -> u32
-    requires { ⌜ (valid h ≡ true → level ≤ h .k) ⌝ }
-    ensures { λ r. ⌜ r ≡ refusal (asksHall h ∷ (bad-length, eqb (length (now (table .entry))) (cellLength h level)) ∷ asksPacket h uid p) ⌝ }
+// The bytes of a table for so many servers.
+fn bytes_of(servers: u32, k: u32) -> usize
+    ensures { λ r. ⌜ r ≡ servers * (k + 1) ⌝ }
 {
-    let s = hall::sizes_of(h);
-    if s.refusal != 0 {
-        return s.refusal;
-    }
-    let sizes = s.t;
-    let at = level as usize;
-    let bytes = (sizes[at] as usize) * ((h.k as usize) + 1);
+    (servers as usize) * ((k as usize) + 1)
+}
+
+// The refusal for a table that has to have so many bytes, and a packet at a server, in a hall of so many; 0 for none.
+fn refused(servers: u32, bytes: usize, table: &[u8], uid: u32, p: Packet) -> u32
+    ensures { λ r. ⌜ r ≡ refusal ((bad-length, eqb (length (now (table .entry))) bytes) ∷ asksBelow servers uid p) ⌝ }
+{
     if table.len() != bytes {
         return BAD_LENGTH;
     }
-    let k = h.k as usize;
-    refused_packet(sizes[k], uid, p)
+    refused_packet(servers, uid, p)
 }
 
-// No packet.
-fn no_packet() -> Packet
-    ensures { λ r. ⌜ r ≡ noPacket ⌝ }
+// A step that is refused.
+fn refused_step(number: u32) -> Step
+    ensures { λ r. ⌜ r ≡ refusedStep number ⌝ }
 {
-    Packet {
-        dst: 0,
-        has_proxy: false,
-        proxy: 0,
-        retry: 0,
-        ttl: 0,
+    Step {
+        refusal: number,
+        ending: 0,
+        next: 0,
+        packet: Packet {
+            dst: 0,
+            has_proxy: false,
+            proxy: 0,
+            retry: 0,
+            ttl: 0,
+        },
+        reroutes: 0,
     }
 }
 
@@ -496,15 +500,14 @@ fn no_packet() -> Packet
 pub fn forward_step(h: Hall, uid: u32, packet: Packet, table: &[u8]) -> Step
     ensures { λ r. ⌜ r ≡ stepOf h uid packet (now (table .entry)) ⌝ }
 {
-    let number = refused(h, h.b, table, uid, packet);
+    let servers = hall::servers_of(h);
+    if servers == 0 {
+        return refused_step(BAD_HALL);
+    }
+    let cell = hall::size_of(h, h.b);
+    let number = refused(servers, bytes_of(cell, h.k), table, uid, packet);
     if number != 0 {
-        return Step {
-            refusal: number,
-            ending: 0,
-            next: 0,
-            packet: no_packet(),
-            reroutes: 0,
-        };
+        return refused_step(number);
     }
     step_at(h, table, uid, packet)
 }
@@ -547,19 +550,30 @@ fn travel(h: Hall, table: &[u8], source: u32, packet: Packet) -> Journey
     }
 }
 
+// A journey that is refused.
+fn refused_journey(number: u32) -> Journey
+    ensures { λ r. ⌜ r ≡ refusedJourney number ⌝ }
+{
+    Journey {
+        refusal: number,
+        ending: 0,
+        links: 0,
+        reroutes: 0,
+        uids: no_uids(),
+    }
+}
+
 // A journey from a source, over the hall table.
 pub fn journey_of(h: Hall, source: u32, packet: Packet, table: &[u8]) -> Journey
     ensures { λ r. ⌜ r ≡ journeyOf h source packet (now (table .entry)) ⌝ }
 {
-    let number = refused(h, h.k, table, source, packet);
+    let servers = hall::servers_of(h);
+    if servers == 0 {
+        return refused_journey(BAD_HALL);
+    }
+    let number = refused(servers, bytes_of(servers, h.k), table, source, packet);
     if number != 0 {
-        return Journey {
-            refusal: number,
-            ending: 0,
-            links: 0,
-            reroutes: 0,
-            uids: no_uids(),
-        };
+        return refused_journey(number);
     }
     travel(h, table, source, packet)
 }

@@ -112,6 +112,14 @@ refusal-in-order (ask ∷ asks) s =
     (λ q. rw q (holds-passes (ask .0) asks order ∙ refusal-in-order asks (rest-sorted ask asks s)))
     (λ q. rw q (fails-first (ask .0) asks order (both-right (ltb 0 (ask .0)) _ (first-sorted ask asks s))))
 
+-- the first ask decides, or leaves it to the others
+module _ (ask : Ask) (asks : List Ask) (s : sorted (ask ∷ asks) ≡ true) where
+  pub first-refuses : ask .1 ≡ false → refusal (ask ∷ asks) ≡ ask .0
+  first-refuses q = refusal-in-order (ask ∷ asks) s ∙ ask-fails (ask .0) (ask .1) asks q
+
+  pub first-passes : ask .1 ≡ true → refusal (ask ∷ asks) ≡ refusal asks
+  first-passes q = refusal-in-order (ask ∷ asks) s ∙ ask-holds (ask .0) (ask .1) asks q ∙ sym (refusal-in-order asks (rest-sorted ask asks s))
+
 sorted-numbered : (asks : List Ask) → sorted asks ≡ true → Numbered asks
 sorted-numbered [] s = tt
 sorted-numbered (ask ∷ asks) s =
