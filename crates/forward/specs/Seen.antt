@@ -20,5 +20,9 @@ pub record Seen : Type 0 where
 unfoldable pub usable : Hall → List ℕ → ℕ → ℕ → Bool
 usable h table i place = up h table place i
 
+-- by the hall table: of the link of level i above b at a server
+abbrev pub usableFrom : Hall → List ℕ → ℕ → ℕ → Bool
+usableFrom h table i u = up h table u i
+
 abbrev pub seen : Hall → List ℕ → Seen
 seen h table = record { distance = distance h table; hop = hop h table; usable = usable h table }

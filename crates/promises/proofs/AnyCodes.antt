@@ -3,28 +3,25 @@
 use mathlib.Core.Path.{_≡_, refl, sym, _∙_}
 use mathlib.Core.Bool.{true}
 use mathlib.Core.List.{List}
-use Prim.Native.Nat.{ℕ, suc, _≤_, _<_}
+use Prim.Native.Nat.{ℕ, suc, _<_}
 use native.Mathlib.Omega.{arith}
 use Rattle.combine.proofs.Tests.{never}
 use Rattle.hall.specs.declared.Hall.{Hall}
 use Rattle.hall.specs.Halls.{valid, servers}
 use Rattle.hall.proofs.Growth.{Valid, valid-known}
-use Rattle.ports.specs.Codes.{up, part}
-use Rattle.ports.proofs.Runs.{part-up}
+use Rattle.ports.specs.Codes.{part}
 use Rattle.local.proofs.Uids.{linked-hall}
-use Rattle.local.specs.Local.{cellSize, placeOf, linked}
+use Rattle.local.specs.Local.{linked}
 use Rattle.forward.specs.declared.Packet.{Packet}
 use Rattle.forward.specs.Packets.{forwarded, drop-retry, cleared, tidied}
-use Rattle.forward.specs.Seen.{usable}
 use Rattle.forward.specs.Endings.{Spent}
 use Rattle.forward.specs.Journeys.{stepAt, sight}
 use Rattle.forward.proofs.Passes.{pick-ways}
 use Rattle.forward.proofs.Steps.{delivered-there, drop-ttl-there, drop-route-means, drop-retry-means, drop-proxy-means}
 use Rattle.forward.proofs.Ways.{Fits, Hop, inside, over, Final, final-delivered, final-drop-ttl, final-drop-route, final-drop-retry, final-drop-proxy}
 use Rattle.forward.proofs.Trips.{tidied-dst, tidied-ttl, tidied-retry, trip-travels, links-within, reroutes-within, trip-ending, trip-last, each-hop}
-use Rattle.forward.proofs.Links.{n-pos}
 use Rattle.forward.proofs.Hops.{step-forwards}
-use Rattle.forward.proofs.Sight.{seen-links}
+use Rattle.forward.proofs.Sight.{seen-links, usable-hall}
 use Rattle.promises.specs.Journeys.{Usable, up-to-b, above-b}
 use Rattle.promises.specs.AnyCodes.{Means, means-delivered, means-ttl, means-route, means-retry, means-proxy, AnyCodes, RetrySpent}
 
@@ -36,13 +33,9 @@ module _ (h : Hall) (table : List ℕ) (is-valid : valid h ≡ true) where
   known : Valid h
   known = valid-known h is-valid
 
-  port-there : (me i : ℕ) → i ≤ h .k → usable h (part h table me) i (placeOf h me) ≡ true → up h table me i ≡ true
-  unfolding usable placeOf cellSize
-  port-there me i l e = sym (part-up h table (h .b) me i (n-pos h known) l) ∙ e
-
   hop-usable : (me next : ℕ) → Hop h (sight h table me) (λ x z. linked h (part h table me) x z ≡ true) me next → Usable h table me next
   hop-usable me next (inside place l e j) = up-to-b (rw e (sym (linked-hall h table me place known l) ∙ j))
-  hop-usable me next (over j low high e u) = above-b j low high e (port-there me (suc j) high u)
+  hop-usable me next (over j low high e u) = above-b j low high e (sym (usable-hall h table known me (suc j) high) ∙ u)
 
   -- a server of the hall with a packet of the hall
   abbrev Stands : ℕ → Packet → Type 0

@@ -19,7 +19,6 @@ use Rattle.hall.proofs.Cells.{same-mono}
 use Rattle.hall.proofs.Growth.{Valid, valid-known}
 use Rattle.hall.proofs.Links.{hall-same}
 use Rattle.ports.specs.Codes.{part, cellLength, tableLength, EveryUp}
-use Rattle.ports.proofs.Runs.{every-up}
 use Rattle.route.specs.declared.Crossing.{Crossing}
 use Rattle.route.specs.Routes.{hops, ofLevel, select, above, route}
 use Rattle.route.specs.Delivery.{hop, passed, left, Local}
@@ -29,13 +28,13 @@ use Rattle.route.proofs.Lowest.{lowest-holds}
 use Rattle.route.proofs.Above.{above-none, above-hops, above-of-level}
 use Rattle.route.proofs.Recursion.{above-lowest, links-none-above}
 use Rattle.route.proofs.Delivery as delivery
-use Rattle.local.specs.Local.{none, cellSize, placeOf, linked, between, towards}
+use Rattle.local.specs.Local.{none, placeOf, linked, between, towards}
 use Rattle.local.proofs.Sizes.{place-fits}
 use Rattle.local.proofs.Short.{AllUp, all-up-reached, all-up-between, all-up-local, all-up-table, all-up-part, all-up-agree, towards-agree}
 use Rattle.forward.specs.declared.Packet.{Packet}
 use Rattle.forward.specs.declared.Step.{Step}
 use Rattle.forward.specs.Packets.{forwarded, delivered, cleared, tidied, isArrived, goal, aged}
-use Rattle.forward.specs.Seen.{usable, seen}
+use Rattle.forward.specs.Seen.{seen}
 use Rattle.forward.specs.Steps.{reachable, stepOn}
 use Rattle.forward.specs.Journeys.{Trip, stepAt, endsAt, trip, sight}
 use Rattle.forward.specs.Endings.{Target, the-goal, the-near, Fails, unusable, out-of-reach}
@@ -45,7 +44,7 @@ use Rattle.forward.proofs.Steps.{step-ways, there-delivered, there-drop-ttl}
 use Rattle.forward.proofs.Trips.{step-sends, trip-travels, links-counted}
 use Rattle.forward.proofs.Links.{n-pos, link-above, none-above, link-ahead}
 use Rattle.forward.proofs.Hops.{step-forwards}
-use Rattle.forward.proofs.Sight.{seen-links}
+use Rattle.forward.proofs.Sight.{seen-links, usable-every}
 use Rattle.promises.specs.Journeys.{Sound}
 use Rattle.promises.specs.EveryUp.{common, linksOf, Delivered, AllDelivered}
 use Rattle.promises.proofs.Passing.{last-one, last-more, select-through, leaves, level-leaves, hop-none, hop-across, hop-near, passed-still, passed-out, passed-on, passed-starts, passed-above}
@@ -88,10 +87,6 @@ module _ (h : Hall) (is-valid : valid h ≡ true) where
   all-local = all-up-local h (ones h) known (all-up-table h)
 
   module _ (cell : List ℕ) (all : AllUp h cell) where
-    ports-up : (i place : ℕ) → place < cellSize h → i ≤ h .k → usable h cell i place ≡ true
-    unfolding usable cellLength cellSize
-    ports-up i place l k = every-up h cell (t (h .n) (h .b)) (all .ups) (all .long) place i l k
-
     hop-onward : (x target : ℕ) → towards h cell x target ≡ onward h x target
     unfolding ones
     hop-onward x target = towards-agree h cell (ones h) known (all-up-agree h cell (ones h) all (all-up-table h)) x target
@@ -107,7 +102,7 @@ module _ (h : Hall) (is-valid : valid h ≡ true) where
       unfolding goal
       no-failure (unusable {n1 = n1} {m = m} e u) =
           let a = link-ahead h is-valid x (p .dst) here there e in
-          never (ports-up m (placeOf h n1) (place-fits h known n1) (omega (arith, a .level, a .high))) u
+          never (usable-every h cell known all m (placeOf h n1) (place-fits h known n1) (omega (arith, a .level, a .high))) u
       no-failure (out-of-reach {target = target} t r w) = never (in-reach target) r
 
       nears-so : {link : Crossing} {target : ℕ} → Target h (seen h cell) x (cleared p) (cleared p) link target

@@ -8,9 +8,10 @@ use lib.ListN.{length}
 use Rattle.hall.specs.declared.Hall.{Hall}
 use Rattle.hall.specs.Cells.{neighbour}
 use Rattle.hall.specs.Halls.{valid, servers}
-use Rattle.ports.specs.Codes.{up, tableLength}
+use Rattle.ports.specs.Codes.{tableLength}
 use Rattle.ports.specs.Links.{joined}
 use Rattle.forward.specs.declared.Packet.{Packet}
+use Rattle.forward.specs.Seen.{usableFrom}
 
 -- a valid hall, a hall table of the right length with any bytes, and a source, a dst and a proxy, if there is one, of the hall
 pub record Sound (h : Hall) (table : List ℕ) (source : ℕ) (p : Packet) : Type 0 where
@@ -24,4 +25,4 @@ pub record Sound (h : Hall) (table : List ℕ) (source : ℕ) (p : Packet) : Typ
 -- port has code 1
 pub data Usable (h : Hall) (table : List ℕ) (u v : ℕ) : Type 0 where
   up-to-b : joined h table (h .b) u v ≡ true → Usable h table u v
-  above-b : (j : ℕ) → h .b ≤ j → j < h .k → neighbour (h .n) j u ≡ v → up h table u (suc j) ≡ true → Usable h table u v
+  above-b : (j : ℕ) → h .b ≤ j → j < h .k → neighbour (h .n) j u ≡ v → usableFrom h table (suc j) u ≡ true → Usable h table u v
