@@ -17,13 +17,14 @@ use Rattle.sheet.specs.declared.Field.{Field}
 use Rattle.sheet.specs.declared.Field.the-variants.{Value, Refused}
 use Rattle.sheet.specs.Formats.{value, read}
 use Rattle.sheet.specs.Sheets.{longest, code, retry, codes, packet, packets, tablesOf, nightSheet}
-use Rattle.sheet.specs.Answers.{hallOf, acceptedAs, sheetOf, packetPlace}
+use Rattle.sheet.specs.Answers.{countPlace, codesPlace, codeCountOf, hallOf, acceptedAs, sheetOf, packetPlace}
 use Rattle.sheet.specs.Accepted.{packetCountOf, PacketFits, Accepted}
 use Rattle.sheet.proofs.Reading.{placeOf, read-done, field-read, field-sound, then-value, within}
 use Rattle.sheet.proofs.Sheets.{sheet-long, sheet-refused, sheet-surplus, sheet-read}
 use Rattle.sheet.proofs.Accepted.{then-read, field-then, then-sound, packet-read, packet-sound, times-width, times-each, times-all}
 use Rattle.sheet.proofs.Codes.{code-width}
 use Rattle.sheet.proofs.Numbers.{refused-by-some}
+use Rattle.sheet.proofs.Places.{count-place, codes-place}
 
 -- an accepted sheet was read to its end
 pub accepted-read : (s : List ℕ) → sheetOf s .refusal ≡ 0 → (length s ≤ longest) × ((v : ℕ) × (read nightSheet s 0 ≡ Value v (length s)))
@@ -46,57 +47,69 @@ accepted-read s ok =
 packet-width : (limit : ℕ) (s : List ℕ) (at v next : ℕ) → read (packet limit) s at ≡ Value v next → next ≡ at + 10
 packet-width limit s at v next e = packet-read limit s at v next e .next-place
 
--- what was read up to its end
+-- what was read of the sections behind the hall's, wherever they stand
+pub record Tables (h : Hall) (s : List ℕ) (at end : ℕ) : Type 0 where
+  pub second : value s at 4 ≡ tableLength h
+  pub codes : (i : ℕ) → i < value s at 4 → known (value s (at + 4 + i) 1) ≡ true
+  pub packets : (i : ℕ) → i < value s (at + 4 + value s at 4) 4 → PacketFits h s (at + 4 + value s at 4 + 4 + 10 * i)
+  pub ends : end ≡ at + 4 + value s at 4 + 4 + 10 * value s (at + 4 + value s at 4) 4
+
+module _ (h : Hall) (s : List ℕ) (at v end : ℕ) (e : read (tablesOf h) s at ≡ Value v end) where
+  pub tables-held : Tables h s at end
+  unfolding tablesOf
+  tables-held =
+      let t = field-then 4 (λ x. eqb x (tableLength h)) bad-length _ s at v end e in
+      let bytes = value s at 4 in
+      let c = then-read (codes (value s at 4)) _ s (at + 4) v end (t .2) in
+      let cw : c .1 ≡ at + 4 + value s at 4 = omega (arith, times-width code 1 s (code-width s) (value s at 4) (at + 4) (c .0) (c .1) (c .2)) in
+      let p = field-then 4 (λ x. true) 0 _ s (at + 4 + value s at 4) v end (rw cw at (c .3)) in
+      let q = then-read (packets (servers h) (value s (at + 4 + value s at 4) 4)) _ s (at + 4 + value s at 4 + 4) v end (p .2) in
+      let qw = times-width (packet (servers h)) 10 s (packet-width (servers h) s) (value s (at + 4 + value s at 4) 4) (at + 4 + value s at 4 + 4) (q .0) (q .1) (q .2) in
+      let d : Value (value s (at + 4 + value s at 4) 4) (q .1) ≡ Value v end = sym (read-done _ s (q .1)) ∙ q .3 in
+      let de : q .1 ≡ end = cc d in
+      record {
+        second = eqb-true (value s at 4) (tableLength h) (t .1);
+        codes = λ i l.
+            let r = times-each code 1 s (code-width s) (value s at 4) (at + 4) (c .0) (c .1) (c .2) i l in
+            let f = field-read 1 known bad-code s (at + 4 + 1 * i) (r .0) (r .1) (r .2) in
+            let z : at + 4 + 1 * i ≡ at + 4 + i = omega arith in
+            sym (ap known (f .2 ∙ ap (λ (m : ℕ). value s m 1) z)) ∙ f .1;
+        packets = λ i l.
+            let r = times-each (packet (servers h)) 10 s (packet-width (servers h) s) (value s (at + 4 + value s at 4) 4) (at + 4 + value s at 4 + 4) (q .0) (q .1) (q .2) i l in
+            let f = packet-read (servers h) s (at + 4 + value s at 4 + 4 + 10 * i) (r .0) (r .1) (r .2) in
+            record { source = f .source; dst = f .dst; retry = f .retry };
+        ends = omega (arith, qw);
+      }
+
+-- what was read up to its end: the hall, and the sections behind it
 module _ (s : List ℕ) (v end : ℕ) (e : read nightSheet s 0 ≡ Value v end) where
   pub record Whole : Type 0 where
     pub first : value s 0 4 ≡ 3
     pub hall : valid (hallOf s) ≡ true
-    pub second : value s 7 4 ≡ tableLength (hallOf s)
-    pub codes : (i : ℕ) → i < value s 7 4 → known (value s (11 + i) 1) ≡ true
-    pub packets : (i : ℕ) → i < packetCountOf s → PacketFits (hallOf s) s (packetPlace s i)
-    pub third : v ≡ packetCountOf s
-    pub ends : end ≡ packetPlace s (packetCountOf s)
+    pub tables : Tables (hallOf s) s (countPlace s) end
 
   pub whole-read : Whole
-  unfolding nightSheet tablesOf packetCountOf packetPlace valid
+  unfolding nightSheet valid
   whole-read =
       let a = field-then 4 (λ x. eqb x 3) bad-length _ s 0 v end e in
       let n = field-then 1 nFits bad-hall _ s 4 v end (a .2) in
       let k = field-then 1 (kFits (value s 4 1)) bad-hall _ s 5 v end (n .2) in
       let b = field-then 1 (bFits (value s 5 1)) bad-hall _ s 6 v end (k .2) in
-      let t = field-then 4 (λ x. eqb x (tableLength (hallOf s))) bad-length _ s 7 v end (b .2) in
-      let bytes = value s 7 4 in
-      let c = then-read (codes (value s 7 4)) _ s 11 v end (t .2) in
-      let cw : c .1 ≡ 11 + value s 7 4 = omega (arith, times-width code 1 s (code-width s) (value s 7 4) 11 (c .0) (c .1) (c .2)) in
-      let p = field-then 4 (λ x. true) 0 _ s (11 + value s 7 4) v end (rw cw at (c .3)) in
-      let q = then-read (packets (servers (hallOf s)) (value s (11 + value s 7 4) 4)) _ s (11 + value s 7 4 + 4) v end (p .2) in
-      let qw = times-width (packet (servers (hallOf s))) 10 s (packet-width (servers (hallOf s)) s) (value s (11 + value s 7 4) 4) (11 + value s 7 4 + 4) (q .0) (q .1) (q .2) in
-      let d : Value (value s (11 + value s 7 4) 4) (q .1) ≡ Value v end = sym (read-done _ s (q .1)) ∙ q .3 in
-      let dv : value s (11 + value s 7 4) 4 ≡ v = cc d in
-      let de : q .1 ≡ end = cc d in
+      let first = eqb-true (value s 0 4) 3 (a .1) in
       record {
-        first = eqb-true (value s 0 4) 3 (a .1);
+        first = first;
         hall = rw (n .1, k .1, b .1);
-        second = eqb-true (value s 7 4) (tableLength (hallOf s)) (t .1);
-        codes = λ i l.
-            let r = times-each code 1 s (code-width s) (value s 7 4) 11 (c .0) (c .1) (c .2) i l in
-            let f = field-read 1 known bad-code s (11 + 1 * i) (r .0) (r .1) (r .2) in
-            let z : 11 + 1 * i ≡ 11 + i = omega arith in
-            sym (ap known (f .2 ∙ ap (λ (m : ℕ). value s m 1) z)) ∙ f .1;
-        packets = λ i l.
-            let r = times-each (packet (servers (hallOf s))) 10 s (packet-width (servers (hallOf s)) s) (value s (11 + value s 7 4) 4) (11 + value s 7 4 + 4) (q .0) (q .1) (q .2) i l in
-            let f = packet-read (servers (hallOf s)) s (11 + value s 7 4 + 4 + 10 * i) (r .0) (r .1) (r .2) in
-            record { source = f .source; dst = f .dst; retry = f .retry };
-        third = sym dv;
-        ends = omega (arith, qw);
+        tables = tables-held (hallOf s) s (countPlace s) v end (rw (count-place s first) (b .2));
       }
 
 -- an accepted sheet holds what it should
 pub accepted-holds : (s : List ℕ) → sheetOf s .refusal ≡ 0 → Accepted s
+unfolding codesPlace packetPlace packetCountOf
 accepted-holds s ok =
     let r = accepted-read s ok in
     let w = whole-read s (r .1 .0) (length s) (r .1 .1) in
-    record { short = r .0; first = w .first; hall = w .hall; second = w .second; codes = w .codes; packets = w .packets; whole = w .ends }
+    let t = w .tables in
+    record { short = r .0; first = w .first; hall = w .hall; second = t .second; codes = t .codes; packets = t .packets; whole = t .ends }
 
 -- the hall's fields where it is valid
 hall-fields : (h : Hall) → valid h ≡ true → (nFits (h .n) ≡ true) × (kFits (h .n) (h .k) ≡ true) × (bFits (h .k) (h .b) ≡ true)
@@ -110,52 +123,53 @@ hall-fields h e =
 
 -- a sheet that holds what it should is read to its end
 module _ (s : List ℕ) (a : Accepted s) where
-  long : length s ≡ 11 + value s 7 4 + 4 + 10 * packetCountOf s
+  pub long : length s ≡ codesPlace s + codeCountOf s + 4 + 10 * packetCountOf s
   unfolding packetPlace
   long = a .whole
 
-  codes-read : read (codes (value s 7 4)) s 11 ≡ Value 0 (11 + value s 7 4)
+  codes-read : read (codes (codeCountOf s)) s (codesPlace s) ≡ Value 0 (codesPlace s + codeCountOf s)
   codes-read =
       let l = long in
-      let w : 11 + 1 * value s 7 4 ≡ 11 + value s 7 4 = omega arith in
-      times-all code 1 s (code-width s) (value s 7 4) 11 (λ i b.
-      let z : 11 + i ≡ 11 + 1 * i = omega arith in
-      (value s (11 + 1 * i) 1, 11 + 1 * i + 1, field-sound 1 known bad-code s (11 + 1 * i) (omega arith) (rw (← z) (a .codes i b))))
+      let w : codesPlace s + 1 * codeCountOf s ≡ codesPlace s + codeCountOf s = omega arith in
+      times-all code 1 s (code-width s) (codeCountOf s) (codesPlace s) (λ i b.
+      let z : codesPlace s + i ≡ codesPlace s + 1 * i = omega arith in (
+        value s (codesPlace s + 1 * i) 1,
+        codesPlace s + 1 * i + 1,
+        field-sound 1 known bad-code s (codesPlace s + 1 * i) (omega arith) (rw (← z) (a .codes i b)),
+      ))
       ∙ ap (λ (m : ℕ). Value 0 m) w
 
-  packets-read : read (packets (servers (hallOf s)) (packetCountOf s)) s (11 + value s 7 4 + 4) ≡ Value 0 (11 + value s 7 4 + 4 + 10 * packetCountOf s)
+  packets-read : read (packets (servers (hallOf s)) (packetCountOf s)) s (codesPlace s + codeCountOf s + 4) ≡ Value 0 (length s)
   unfolding packetPlace
   packets-read =
       let l = long in
-      times-all (packet (servers (hallOf s))) 10 s (packet-width (servers (hallOf s)) s) (packetCountOf s) (11 + value s 7 4 + 4) (λ i b.
+      rw l (times-all (packet (servers (hallOf s))) 10 s (packet-width (servers (hallOf s)) s) (packetCountOf s) (codesPlace s + codeCountOf s + 4) (λ i b.
       let f = a .packets i b in
-      let at = 11 + value s 7 4 + 4 + 10 * i in (
-        value s (11 + value s 7 4 + 4 + 10 * i + 9) 1,
-        11 + value s 7 4 + 4 + 10 * i + 10,
-        packet-sound (servers (hallOf s)) s (11 + value s 7 4 + 4 + 10 * i) (f .source) (f .dst) (f .retry) (omega arith),
-      ))
+      let at = codesPlace s + codeCountOf s + 4 + 10 * i in
+      (value s (at + 9) 1, at + 10, packet-sound (servers (hallOf s)) s at (f .source) (f .dst) (f .retry) (omega arith))))
 
-  tables-read : read (tablesOf (hallOf s)) s 7 ≡ Value (packetCountOf s) (length s)
-  unfolding tablesOf packetCountOf
+  tables-read : read (tablesOf (hallOf s)) s (countPlace s) ≡ Value (packetCountOf s) (length s)
+  unfolding tablesOf packetCountOf codesPlace
   tables-read =
       let l = long in
-      then-sound 4 (λ x. eqb x (tableLength (hallOf s))) bad-length _ s 7 (omega arith) (eq-eqb (value s 7 4) (tableLength (hallOf s)) (a .second))
-      ∙ then-value (codes (value s 7 4)) _ s 11 0 (11 + value s 7 4) codes-read
-      ∙ then-sound 4 (λ x. true) 0 _ s (11 + value s 7 4) (omega arith) refl
-      ∙ then-value (packets (servers (hallOf s)) (value s (11 + value s 7 4) 4)) _ s (11 + value s 7 4 + 4) 0 (11 + value s 7 4 + 4 + 10 * value s (11 + value s 7 4) 4) packets-read
-      ∙ read-done (value s (11 + value s 7 4) 4) s (11 + value s 7 4 + 4 + 10 * value s (11 + value s 7 4) 4)
-      ∙ ap (λ (m : ℕ). Value (value s (11 + value s 7 4) 4) m) (sym long)
+      let third = codesPlace s + codeCountOf s in
+      then-sound 4 (λ x. eqb x (tableLength (hallOf s))) bad-length _ s (countPlace s) (omega arith) (eq-eqb (codeCountOf s) (tableLength (hallOf s)) (a .second))
+      ∙ then-value (codes (codeCountOf s)) _ s (codesPlace s) 0 third codes-read
+      ∙ then-sound 4 (λ x. true) 0 _ s third (omega arith) refl
+      ∙ then-value (packets (servers (hallOf s)) (value s third 4)) _ s (third + 4) 0 (length s) packets-read
+      ∙ read-done (value s third 4) s (length s)
 
   held-read : read nightSheet s 0 ≡ Value (packetCountOf s) (length s)
   unfolding nightSheet
   held-read =
       let l = long in
+      let c = codes-place s (a .first) in
       let h = hall-fields (hallOf s) (a .hall) in
       then-sound 4 (λ x. eqb x 3) bad-length _ s 0 (omega arith) (eq-eqb (value s 0 4) 3 (a .first))
       ∙ then-sound 1 nFits bad-hall _ s 4 (omega arith) (h .0)
       ∙ then-sound 1 (kFits (value s 4 1)) bad-hall _ s 5 (omega arith) (h .1)
       ∙ then-sound 1 (bFits (value s 5 1)) bad-hall _ s 6 (omega arith) (h .2)
-      ∙ tables-read
+      ∙ rw (← count-place s (a .first)) tables-read
 
   -- and so it is accepted, with its hall and its number of packets
   pub holds-accepted : sheetOf s ≡ acceptedAs (hallOf s) (packetCountOf s)

@@ -5,4 +5,5 @@ pub mod Accepted
 pub mod Codes
 pub mod Faults
 pub mod Numbers
+pub mod Places
 pub mod Held

@@ -11,11 +11,11 @@ use Rattle.hall.specs.Halls.{valid, servers}
 use Rattle.ports.specs.Codes.{known, tableLength}
 use Rattle.sheet.specs.Formats.{value}
 use Rattle.sheet.specs.Sheets.{longest}
-use Rattle.sheet.specs.Answers.{place-count, place-codes, hallOf, packetPlace}
+use Rattle.sheet.specs.Answers.{codesPlace, codeCountOf, hallOf, packetPlace}
 
 -- the third count
 unfoldable pub packetCountOf : List ℕ → ℕ
-packetCountOf s = value s (place-codes + value s place-count 4) 4
+packetCountOf s = value s (codesPlace s + codeCountOf s) 4
 
 -- source and dst below t(k), retry at most the greatest
 pub record PacketFits (h : Hall) (s : List ℕ) (at : ℕ) : Type 0 where
@@ -27,7 +27,7 @@ pub record Accepted (s : List ℕ) : Type 0 where
   pub short : length s ≤ longest
   pub first : value s 0 4 ≡ 3
   pub hall : valid (hallOf s) ≡ true
-  pub second : value s place-count 4 ≡ tableLength (hallOf s)
-  pub codes : (i : ℕ) → i < value s place-count 4 → known (value s (place-codes + i) 1) ≡ true
+  pub second : codeCountOf s ≡ tableLength (hallOf s)
+  pub codes : (i : ℕ) → i < codeCountOf s → known (value s (codesPlace s + i) 1) ≡ true
   pub packets : (i : ℕ) → i < packetCountOf s → PacketFits (hallOf s) s (packetPlace s i)
   pub whole : length s ≡ packetPlace s (packetCountOf s)

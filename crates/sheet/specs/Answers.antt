@@ -14,7 +14,7 @@ use Rattle.sheet.specs.declared.Sheet.{Sheet}
 use Rattle.sheet.specs.Formats.{value, read}
 use Rattle.sheet.specs.Sheets.{longest, nightSheet}
 
--- the first bytes of n, k, b, the second count, and the hall table
+-- the first bytes of n, k and b
 abbrev pub place-n : ℕ
 place-n = 4
 
@@ -24,11 +24,17 @@ place-k = 5
 abbrev pub place-b : ℕ
 place-b = 6
 
-abbrev pub place-count : ℕ
-place-count = 7
+-- the first byte of the second count, behind the first count and the 3 bytes of its section
+unfoldable pub countPlace : List ℕ → ℕ
+countPlace s = 4 + 3
 
-abbrev pub place-codes : ℕ
-place-codes = 11
+-- and of the hall table, behind the second count
+unfoldable pub codesPlace : List ℕ → ℕ
+codesPlace s = countPlace s + 4
+
+-- the second count
+abbrev pub codeCountOf : List ℕ → ℕ
+codeCountOf s = value s (countPlace s) 4
 
 -- the hall that a sheet's bytes name
 abbrev pub hallOf : List ℕ → Hall
@@ -55,4 +61,4 @@ sheetOf s = pick (ltb longest (length s)) (refusedAt bad-sheet longest) (told s 
 
 -- the first byte of packet i: 10 bytes each, behind the codes and the third count
 unfoldable pub packetPlace : List ℕ → ℕ → ℕ
-packetPlace s i = place-codes + value s place-count 4 + 4 + 10 * i
+packetPlace s i = codesPlace s + codeCountOf s + 4 + 10 * i

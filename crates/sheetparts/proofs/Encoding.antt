@@ -11,8 +11,9 @@ use lib.Seq.{take-suc, getD-drop, drop-drop, length-take-le}
 use borrow.Author.Tests.{le-leb}
 use Rattle.sheet.specs.declared.Sheet.{Sheet}
 use Rattle.sheet.specs.Formats.{value}
-use Rattle.sheet.specs.Answers.{hallOf, sheetOf, packetPlace}
+use Rattle.sheet.specs.Answers.{countPlace, codesPlace, codeCountOf, hallOf, sheetOf, packetPlace}
 use Rattle.sheet.specs.Accepted.{packetCountOf, Accepted}
+use Rattle.sheet.proofs.Places.{count-place, codes-place}
 use Rattle.sheet.proofs.Held.{accepted-holds, holds-accepted}
 use Rattle.sheetparts.specs.declared.SheetPacket.{SheetPacket}
 use Rattle.sheetparts.specs.Parts.{codesPart, codesOf, packetPart, packetFields, packetAt}
@@ -60,29 +61,30 @@ module _ (s : List ℕ) (b : Bytes s) where
   -- the sections one behind the other
   encoded : (sheet : Sheet) (codes : List ℕ) (packet : ℕ → SheetPacket) → Accepted s
       → sheet .hall .n ≡ value s 4 1 → sheet .hall .k ≡ value s 5 1 → sheet .hall .b ≡ value s 6 1 → sheet .packets ≡ packetCountOf s
-      → codes ≡ take (value s 7 4) (drop 11 s)
+      → codes ≡ take (codeCountOf s) (drop (codesPlace s) s)
       → ((i : ℕ) → i < packetCountOf s → packet i ≡ packetFields s i)
       → s ≡ encodingOf sheet codes packet
-  unfolding encodingOf packetPlace packetCountOf packetPart
+  unfolding encodingOf codesPlace packetPlace packetCountOf packetPart
   encoded sheet codes packet a en ek eb ep ec each =
-      let l : length s ≡ 11 + value s 7 4 + 4 + 10 * value s (11 + value s 7 4) 4 = a .whole in
-      let m : 11 + value s 7 4 ≤ length s = omega arith in
-      let cl : length codes ≡ value s 7 4 = ap length ec ∙ length-take-le (value s 7 4) (drop 11 s) (omega (arith, length-drop 11 s)) in
-      let s7 : drop (11 + value s 7 4 + 4) s ≡ packetsBytes packet (sheet .packets) =
-      packets-bytes packet (11 + value s 7 4 + 4) (value s (11 + value s 7 4) 4) (λ i h.
-      let t : 11 + value s 7 4 + 4 + 10 * i + 10 ≤ length s = omega arith in
+      let p = codes-place s (a .first) in
+      let l : length s ≡ codesPlace s + codeCountOf s + 4 + 10 * value s (codesPlace s + codeCountOf s) 4 = a .whole in
+      let m : codesPlace s + codeCountOf s ≤ length s = omega arith in
+      let cl : length codes ≡ codeCountOf s = ap length ec ∙ length-take-le (codeCountOf s) (drop (codesPlace s) s) (omega (arith, length-drop (codesPlace s) s)) in
+      let s7 : drop (codesPlace s + codeCountOf s + 4) s ≡ packetsBytes packet (sheet .packets) =
+      packets-bytes packet (codesPlace s + codeCountOf s + 4) (value s (codesPlace s + codeCountOf s) 4) (λ i h.
+      let t : codesPlace s + codeCountOf s + 4 + 10 * i + 10 ≤ length s = omega arith in
       let p : packet i ≡ packetFields s i = each i h in
-      let f = le-leb (11 + value s 7 4 + 4 + 10 * i + 10) (length s) t in
-      packet-bytes (packet i) (11 + value s 7 4 + 4 + 10 * i) (rw (p, f)) (rw (p, f)) (rw (p, f)) (rw (p, f)) t)
-      ∙ rw (drop-of-length-le s {i = 11 + value s 7 4 + 4 + 10 * value s (11 + value s 7 4) 4} (omega arith), ep)
-      (append-nil (packetsBytes packet (value s (11 + value s 7 4) 4))) in
-      let s6 : drop (11 + value s 7 4) s ≡ bytesOf 4 (sheet .packets) ++ packetsBytes packet (sheet .packets) =
-      drop-bytes 4 (11 + value s 7 4) (omega arith) ∙ rw (s7, ep) in
-      let s5 : drop 11 s ≡ codes ++ (bytesOf 4 (sheet .packets) ++ packetsBytes packet (sheet .packets)) =
-      sym (take-append-drop (value s 7 4) (drop 11 s)) ∙ rw (drop-drop (value s 7 4) 11 s, s6, ec) in
-      let s4 : drop 7 s ≡ bytesOf 4 (length codes) ++ (codes ++ (bytesOf 4 (sheet .packets) ++ packetsBytes packet (sheet .packets))) =
-      drop-bytes 4 7 (omega arith) ∙ rw (s5, cl) in
-      let s3 : drop 6 s ≡ bytesOf 1 (sheet .hall .b) ++ drop 7 s = rw eb (drop-bytes 1 6 (omega arith)) in
+      let f = le-leb (codesPlace s + codeCountOf s + 4 + 10 * i + 10) (length s) t in
+      packet-bytes (packet i) (codesPlace s + codeCountOf s + 4 + 10 * i) (rw (p, f)) (rw (p, f)) (rw (p, f)) (rw (p, f)) t)
+      ∙ rw (drop-of-length-le s {i = codesPlace s + codeCountOf s + 4 + 10 * value s (codesPlace s + codeCountOf s) 4} (omega arith), ep)
+      (append-nil (packetsBytes packet (value s (codesPlace s + codeCountOf s) 4))) in
+      let s6 : drop (codesPlace s + codeCountOf s) s ≡ bytesOf 4 (sheet .packets) ++ packetsBytes packet (sheet .packets) =
+      drop-bytes 4 (codesPlace s + codeCountOf s) (omega arith) ∙ rw (s7, ep) in
+      let s5 : drop (codesPlace s) s ≡ codes ++ (bytesOf 4 (sheet .packets) ++ packetsBytes packet (sheet .packets)) =
+      sym (take-append-drop (codeCountOf s) (drop (codesPlace s) s)) ∙ rw (drop-drop (codeCountOf s) (codesPlace s) s, s6, ec) in
+      let s4 : drop (countPlace s) s ≡ bytesOf 4 (length codes) ++ (codes ++ (bytesOf 4 (sheet .packets) ++ packetsBytes packet (sheet .packets))) =
+      drop-bytes 4 (countPlace s) (omega arith) ∙ rw (s5, cl) in
+      let s3 : drop 6 s ≡ bytesOf 1 (sheet .hall .b) ++ drop (countPlace s) s = rw (eb, count-place s (a .first)) (drop-bytes 1 6 (omega arith)) in
       let s2 : drop 5 s ≡ bytesOf 1 (sheet .hall .k) ++ drop 6 s = rw ek (drop-bytes 1 5 (omega arith)) in
       let s1 : drop 4 s ≡ bytesOf 1 (sheet .hall .n) ++ drop 5 s = rw en (drop-bytes 1 4 (omega arith)) in
       let s0 : s ≡ bytesOf 4 3 ++ drop 4 s = rw (← a .first) (drop-bytes 4 0 (omega arith)) in
@@ -90,7 +92,7 @@ module _ (s : List ℕ) (b : Bytes s) where
       (s2 ∙ ap (λ (x : List ℕ). bytesOf 1 (sheet .hall .k) ++ x) (s3 ∙ ap (λ (x : List ℕ). bytesOf 1 (sheet .hall .b) ++ x) s4)))
       ∙ simp append-assoc
 
-  codes-fit : Accepted s → 11 + value s 7 4 ≤ length s
+  codes-fit : Accepted s → codesPlace s + codeCountOf s ≤ length s
   unfolding packetPlace
   codes-fit a = omega (arith, a .whole)
 
@@ -99,7 +101,7 @@ module _ (s : List ℕ) (b : Bytes s) where
   accepted-encoding ok =
       let a = accepted-holds s ok in
       let e = holds-accepted s a in
-      let l : 11 + value s 7 4 ≤ length s = codes-fit a in
+      let l : codesPlace s + codeCountOf s ≤ length s = codes-fit a in
       encoded (sheetOf s) (codesOf s) (packetAt s) a (ap (λ x. x .hall .n) e) (ap (λ x. x .hall .k) e) (ap (λ x. x .hall .b) e) (ap (λ x. x .packets) e)
       (sym (codes-there s l ∙ codes-answered s (sheetOf s) refl ok))
       (λ i h. sym (packet-answered s (sheetOf s) refl i ok (omega (arith, ap (λ x. x .packets) e))))

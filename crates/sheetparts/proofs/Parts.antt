@@ -1,26 +1,34 @@
 -- Laws of the answers about codes and packets: what each is, by the test that decides it.
-use mathlib.Core.Path.{_≡_}
+use mathlib.Core.Path.{_≡_, _∙_}
 use mathlib.Core.List.{List, []}
-use Prim.Native.Nat.{ℕ, _+_, _*_, _≤_, _<_}
+use Prim.Native.Nat.{ℕ, _+_, _-_, _*_, _≤_, _<_}
+use native.Mathlib.Omega.{arith}
 use lib.ListN.{length, getD, take, drop}
 use borrow.Author.Tests.{le-leb, lt-leb, lt-ltb, le-ltb, eq-eqb, ne-eqb}
 use Rattle.hall.specs.Refusals.{bad-range}
 use Rattle.sheet.specs.declared.Sheet.{Sheet}
-use Rattle.sheet.specs.Formats.{value}
-use Rattle.sheet.specs.Answers.{sheetOf, packetPlace}
-use Rattle.sheet.proofs.Reading.{value-one}
+use Rattle.sheet.specs.Formats.{value, wordAt}
+use Rattle.sheet.specs.Answers.{countPlace, codesPlace, codeCountOf, sheetOf, packetPlace}
+use Rattle.sheet.proofs.Reading.{value-one, word-there}
+use Rattle.sheet.proofs.Places.{codes-behind}
 use Rattle.sheetparts.specs.declared.SheetPacket.{SheetPacket}
 use Rattle.sheetparts.specs.Parts.{codesPart, codesOf, packetRefused, packetPart, packetFields, packetAt}
 
 module _ (s : List ℕ) where
-  -- the codes by their bytes
-  pub codes-short : length s < 11 + value s 7 4 → [] ≡ codesPart s
-  unfolding codesPart
-  codes-short h = rw (lt-leb (11 + value s 7 4) (length s) h)
+  -- the second count, read before the hall table
+  pub count-read : (place count : ℕ) → place ≡ codesPlace s → place ≤ length s → count ≡ wordAt s (place - 4) → count ≡ codeCountOf s
+  count-read place count e h w =
+      let q : place - 4 ≡ countPlace s = omega (arith, codes-behind s) in
+      w ∙ rw q (word-there s (countPlace s) (omega (arith, codes-behind s)))
 
-  pub codes-there : 11 + value s 7 4 ≤ length s → take (value s 7 4) (drop 11 s) ≡ codesPart s
+  -- the codes by their bytes
+  pub codes-short : length s < codesPlace s + codeCountOf s → [] ≡ codesPart s
   unfolding codesPart
-  codes-there h = rw (le-leb (11 + value s 7 4) (length s) h)
+  codes-short h = rw (lt-leb (codesPlace s + codeCountOf s) (length s) h)
+
+  pub codes-there : codesPlace s + codeCountOf s ≤ length s → take (codeCountOf s) (drop (codesPlace s) s) ≡ codesPart s
+  unfolding codesPart
+  codes-there h = rw (le-leb (codesPlace s + codeCountOf s) (length s) h)
 
   module _ (r : Sheet) (read : r ≡ sheetOf s) where
     pub codes-refused : (r .refusal ≡ 0 → ⊥) → [] ≡ codesOf s
@@ -39,11 +47,11 @@ module _ (s : List ℕ) where
     packet-answered i h l = rw (← read, eq-eqb (r .refusal) 0 h, lt-ltb i (r .packets) l)
 
   -- a packet by its bytes
-  pub packet-short : (i : ℕ) → length s < 11 + value s 7 4 + 4 + 10 * i + 10 → packetRefused bad-range 0 ≡ packetFields s i
+  pub packet-short : (i : ℕ) → length s < codesPlace s + codeCountOf s + 4 + 10 * i + 10 → packetRefused bad-range 0 ≡ packetFields s i
   unfolding packetPart packetPlace
-  packet-short i h = rw (lt-leb (11 + value s 7 4 + 4 + 10 * i + 10) (length s) h)
+  packet-short i h = rw (lt-leb (codesPlace s + codeCountOf s + 4 + 10 * i + 10) (length s) h)
 
-  pub packet-there : (i at source dst : ℕ) → at ≡ 11 + value s 7 4 + 4 + 10 * i → at + 10 ≤ length s
+  pub packet-there : (i at source dst : ℕ) → at ≡ codesPlace s + codeCountOf s + 4 + 10 * i → at + 10 ≤ length s
       → source ≡ value s at 4 → dst ≡ value s (at + 4) 4
       → _≡_ {A = SheetPacket}
       (record { refusal = 0; place = 0; source = source; dst = dst; retry = getD s (at + 8) 0; ttl = getD s (at + 9) 0 })

@@ -7,13 +7,13 @@ use lib.ListN.{length, take, drop}
 use Rattle.combine.specs.Tests.{pick}
 use Rattle.hall.specs.Refusals.{bad-range}
 use Rattle.sheet.specs.Formats.{value}
-use Rattle.sheet.specs.Answers.{place-count, place-codes, sheetOf, packetPlace}
+use Rattle.sheet.specs.Answers.{codesPlace, codeCountOf, sheetOf, packetPlace}
 use Rattle.sheetparts.specs.declared.SheetPacket.{SheetPacket}
 
 -- as many bytes as the second count says, behind it; none where they are not there
 unfoldable pub codesPart : List ℕ → List ℕ
 codesPart s =
-    pick (leb (place-codes + value s place-count 4) (length s)) (take (value s place-count 4) (drop place-codes s)) []
+    pick (leb (codesPlace s + codeCountOf s) (length s)) (take (codeCountOf s) (drop (codesPlace s) s)) []
 
 -- the sheet's codes
 abbrev pub codesOf : List ℕ → List ℕ

@@ -7,14 +7,14 @@ use Rattle.hall.specs.Halls.{nFits, kFits, bFits, servers}
 use Rattle.ports.specs.Codes.{known, tableLength}
 use Rattle.sheet.specs.Formats.{value, read, and-then}
 use Rattle.sheet.specs.Sheets.{times, packet, tablesOf, nightSheet}
-use Rattle.sheet.specs.Answers.{sheetOf, packetPlace}
+use Rattle.sheet.specs.Answers.{countPlace, codesPlace, sheetOf, packetPlace}
 use Rattle.sheet.specs.Worked.{sheetWith}
 use Rattle.sheetparts.specs.Parts.{packetPart, packetAt}
 
 packet-zero : packetAt (sheetWith 2 []) 0 ≡ record { refusal = 0; place = 0; source = 0; dst = 19; retry = 5; ttl = 15 }
-unfolding sheetOf sheetWith nightSheet tablesOf times packet read and-then value nFits kFits bFits tableLength servers t known packetPlace packetPart
+unfolding sheetOf sheetWith nightSheet tablesOf times packet read and-then value nFits kFits bFits tableLength servers t known packetPlace codesPlace countPlace packetPart
 packet-zero = refl
 
 packet-one : packetAt (sheetWith 2 []) 1 ≡ record { refusal = 3; place = 0; source = 0; dst = 0; retry = 0; ttl = 0 }
-unfolding sheetOf sheetWith nightSheet tablesOf times packet read and-then value nFits kFits bFits tableLength servers t known packetPlace packetPart
+unfolding sheetOf sheetWith nightSheet tablesOf times packet read and-then value nFits kFits bFits tableLength servers t known packetPlace codesPlace countPlace packetPart
 packet-one = refl

@@ -1,14 +1,15 @@
 // The codes and the packets of a sheet, as parts of its bytes.
 ghost use mathlib.Core.Path.{_≡_};
+ghost use Rattle.sheet.specs.Answers.{codesPlace};
 ghost use Rattle.sheetparts.specs.Parts.{codesPart, codesOf, packetRefused, packetFields, packetAt};
 use hall::refusals::BAD_RANGE;
 use sheet::read_sheet;
 use sheet::word_at;
 
-// The first bytes of the second count and of the hall table.
-const PLACE_COUNT: usize = 7;
+// The bytes of a count, and those of the first section.
+const COUNT_BYTES: usize = 4;
 
-const PLACE_CODES: usize = 11;
+const HALL_BYTES: usize = 3;
 
 // A packet of a sheet; or the refusal, and its place.
 pub struct SheetPacket {
@@ -34,20 +35,28 @@ fn packet_refused(number: u32, place: u32) -> SheetPacket
     }
 }
 
+// The first byte of a sheet's hall table: behind the first section and the second count. It is the same in every sheet.
+fn codes_place(_sheet: &[u8]) -> usize
+    ensures { λ r. ⌜ r ≡ codesPlace (now («_sheet» .entry)) ⌝ }
+{
+    COUNT_BYTES + HALL_BYTES + COUNT_BYTES
+}
+
 // As many bytes as the second count says, behind it; none where they are not there.
 pub fn codes_part(sheet: &[u8]) -> &[u8]
     ensures { λ r. ⌜ now r ≡ codesPart (now (sheet .entry)) ⌝ }
 {
     let length = sheet.len();
-    if length < PLACE_CODES {
+    let place = codes_place(sheet);
+    if length < place {
         return &sheet[0..0];
     }
-    let count = word_at(sheet, PLACE_COUNT) as usize;
-    if length - PLACE_CODES < count {
+    let count = word_at(sheet, place - COUNT_BYTES) as usize;
+    if length - place < count {
         return &sheet[0..0];
     }
-    let end = PLACE_CODES + count;
-    &sheet[PLACE_CODES..end]
+    let end = place + count;
+    &sheet[place..end]
 }
 
 // The codes of a sheet, the hall table; none where the sheet is refused.
@@ -66,11 +75,12 @@ pub fn packet_fields(sheet: &[u8], i: u32) -> SheetPacket
     ensures { λ r. ⌜ r ≡ packetFields (now (sheet .entry)) i ⌝ }
 {
     let length = sheet.len();
-    if length < PLACE_CODES {
+    let place = codes_place(sheet);
+    if length < place {
         return packet_refused(BAD_RANGE, 0);
     }
-    let count = word_at(sheet, PLACE_COUNT) as usize;
-    let at = PLACE_CODES + count + 4 + 10 * (i as usize);
+    let count = word_at(sheet, place - COUNT_BYTES) as usize;
+    let at = place + count + COUNT_BYTES + 10 * (i as usize);
     if length < at + 10 {
         return packet_refused(BAD_RANGE, 0);
     }

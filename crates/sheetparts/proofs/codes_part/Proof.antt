@@ -3,12 +3,14 @@ use mathlib.Core.Path.{_≡_, sym, _∙_, ap}
 use Prim.Native.Nat.{ℕ, _+_, _-_, _≤_, _<_}
 use native.Mathlib.Omega.{arith}
 use lib.ListN.{length, take, drop}
-use Rattle.sheet.specs.Formats.{value}
-use Rattle.sheet.proofs.Reading.{word-there}
-use Rattle.sheetparts.proofs.Parts.{codes-short, codes-there}
+use Rattle.sheet.proofs.Places.{codes-behind}
+use Rattle.sheetparts.proofs.Parts.{count-read, codes-short, codes-there}
 use borrow.Author.Needs.{needs}
 use Rattle.sheetparts.proofs.codes_part.Statement.{statement}
 use Rattle.sheetparts.proofs.codes_part.Tie as tie
+
+codes-place-requires : tie.Need-codes-place-requires
+codes-place-requires c κs = search needs
 
 sub-result : tie.Need-sub-result
 sub-result c = search needs
@@ -21,7 +23,13 @@ part-result-end c = search needs
 
 returns : tie.Need-returns
 returns c =
-    codes-short (c .before .before .before .args .sheet .now) (omega arith)
+    let p = c .before .before .codes-place .ensures in
+    codes-short (c .before .before .before .before .args .sheet .now) (omega arith)
+
+sub-word-at : tie.Need-sub-word-at
+sub-word-at c =
+    let p = c .before .codes-place .ensures in
+    omega (arith, codes-behind (c .before .before .before .args .sheet .now))
 
 word-at-requires : tie.Need-word-at-requires
 word-at-requires c κs = search needs
@@ -40,9 +48,11 @@ part-result-end-2 c = search needs
 
 returns-2 : tie.Need-returns-2
 returns-2 c =
-    let s = c .before .before .before .before .before .args .sheet .now in
-    let e = c .before .before .word-at .ensures ∙ word-there s 7 (omega arith) in
-    codes-short s (omega arith)
+    let w = c .before .before .word-at in
+    let p = c .before .before .before .before .codes-place in
+    let s = c .before .before .before .before .before .before .args .sheet .now in
+    let e = count-read s (p .result) (w .result) (p .ensures) (omega arith) (w .ensures) in
+    codes-short s (omega (arith, p .ensures))
 
 add-end : tie.Need-add-end
 add-end c = search needs
@@ -59,19 +69,22 @@ part-result-end-3 c = search needs
 returns-3 : tie.Need-returns-3
 returns-3 c =
     let w = c .before .before .word-at in
-    let s = c .before .before .before .before .before .args .sheet .now in
-    let e = w .ensures ∙ word-there s 7 (omega arith) in
-    let d : 11 + w .result - 11 ≡ w .result = omega arith in
-    rw (d, e) (codes-there s (omega arith))
+    let p = c .before .before .before .before .codes-place in
+    let s = c .before .before .before .before .before .before .args .sheet .now in
+    let e = count-read s (p .result) (w .result) (p .ensures) (omega arith) (w .ensures) in
+    let d : p .result + w .result - p .result ≡ w .result = omega arith in
+    rw (d, e, p .ensures) (codes-there s (omega (arith, p .ensures)))
 
 pub codes-part-spec : {M : Type 1} → statement M
 codes-part-spec =
     tie.close
     (tie.spec
+    codes-place-requires
     sub-result
     part-result-start
     part-result-end
     returns
+    sub-word-at
     word-at-requires
     cast-count
     sub-result-2

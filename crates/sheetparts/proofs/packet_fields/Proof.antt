@@ -3,19 +3,29 @@ use mathlib.Core.Path.{_≡_, sym, _∙_, ap}
 use Prim.Native.Nat.{ℕ, _+_, _*_, _≤_, _<_}
 use native.Mathlib.Omega.{arith}
 use lib.ListN.{length}
-use Rattle.sheet.specs.Formats.{value}
 use Rattle.sheet.proofs.Reading.{word-there}
-use Rattle.sheetparts.proofs.Parts.{packet-short, packet-there}
+use Rattle.sheet.proofs.Places.{codes-behind}
+use Rattle.sheetparts.proofs.Parts.{count-read, packet-short, packet-there}
 use borrow.Author.Needs.{needs}
 use Rattle.sheetparts.proofs.packet_fields.Statement.{statement}
 use Rattle.sheetparts.proofs.packet_fields.Tie as tie
+
+codes-place-requires : tie.Need-codes-place-requires
+codes-place-requires c κs = search needs
 
 packet-refused-requires : tie.Need-packet-refused-requires
 packet-refused-requires c κs = search needs
 
 returns : tie.Need-returns
 returns c =
-    c .packet-refused .ensures ∙ packet-short (c .before .before .before .args .sheet .now) (c .before .before .before .args .i) (omega arith)
+    let p = c .before .before .codes-place .ensures in
+    let a = c .before .before .before .before .args in
+    c .packet-refused .ensures ∙ packet-short (a .sheet .now) (a .i) (omega arith)
+
+sub-word-at : tie.Need-sub-word-at
+sub-word-at c =
+    let p = c .before .codes-place .ensures in
+    omega (arith, codes-behind (c .before .before .before .args .sheet .now))
 
 word-at-requires : tie.Need-word-at-requires
 word-at-requires c κs = search needs
@@ -43,9 +53,11 @@ packet-refused-requires-2 c κs = search needs
 
 returns-2 : tie.Need-returns-2
 returns-2 c =
-    let a = c .before .before .before .before .before .args in
-    let e = c .before .before .word-at .ensures ∙ word-there (a .sheet .now) 7 (omega arith) in
-    c .packet-refused2 .ensures ∙ packet-short (a .sheet .now) (a .i) (omega arith)
+    let w = c .before .before .word-at in
+    let p = c .before .before .before .before .codes-place in
+    let a = c .before .before .before .before .before .before .args in
+    let e = count-read (a .sheet .now) (p .result) (w .result) (p .ensures) (omega arith) (w .ensures) in
+    c .packet-refused2 .ensures ∙ packet-short (a .sheet .now) (a .i) (omega (arith, p .ensures))
 
 word-at-requires-2 : tie.Need-word-at-requires-2
 word-at-requires-2 c κs = search needs
@@ -56,25 +68,26 @@ add-word-at c = search needs
 word-at-requires-3 : tie.Need-word-at-requires-3
 word-at-requires-3 c κs = search needs
 
-add-t8 : tie.Need-add-t8
-add-t8 c = search needs
-
-shared-slice-read-t14 : tie.Need-shared-slice-read-t14
-shared-slice-read-t14 c = search needs
-
 add-t9 : tie.Need-add-t9
 add-t9 c = search needs
 
-shared-slice-read-t16 : tie.Need-shared-slice-read-t16
-shared-slice-read-t16 c = search needs
+shared-slice-read-t15 : tie.Need-shared-slice-read-t15
+shared-slice-read-t15 c = search needs
+
+add-t10 : tie.Need-add-t10
+add-t10 c = search needs
+
+shared-slice-read-t17 : tie.Need-shared-slice-read-t17
+shared-slice-read-t17 c = search needs
 
 returns-3 : tie.Need-returns-3
 returns-3 c =
     let w = c .before .before .before .before .before .word-at in
-    let a = c .before .before .before .before .before .before .before .before .args in
-    let at = 11 + w .result + 4 + 10 * a .i in
-    let e = w .ensures ∙ word-there (a .sheet .now) 7 (omega arith) in
-    packet-there (a .sheet .now) (a .i) at _ _ (rw e) (omega arith)
+    let p = c .before .before .before .before .before .before .before .codes-place in
+    let a = c .before .before .before .before .before .before .before .before .before .args in
+    let at = p .result + w .result + 4 + 10 * a .i in
+    let e = count-read (a .sheet .now) (p .result) (w .result) (p .ensures) (omega arith) (w .ensures) in
+    packet-there (a .sheet .now) (a .i) at _ _ (rw (e, p .ensures)) (omega arith)
     (c .before .before .before .word-at2 .ensures ∙ word-there (a .sheet .now) at (omega arith))
     (c .before .before .word-at3 .ensures ∙ word-there (a .sheet .now) (at + 4) (omega arith))
 
@@ -82,8 +95,10 @@ pub packet-fields-spec : {M : Type 1} → statement M
 packet-fields-spec =
     tie.close
     (tie.spec
+    codes-place-requires
     packet-refused-requires
     returns
+    sub-word-at
     word-at-requires
     cast-count
     add-at
@@ -96,8 +111,8 @@ packet-fields-spec =
     word-at-requires-2
     add-word-at
     word-at-requires-3
-    add-t8
-    shared-slice-read-t14
     add-t9
-    shared-slice-read-t16
+    shared-slice-read-t15
+    add-t10
+    shared-slice-read-t17
     returns-3)
