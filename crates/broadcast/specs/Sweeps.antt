@@ -10,6 +10,7 @@ use lib.ListN.{length, getD, take}
 use Rattle.combine.specs.Tests.{pick, both, either, anyBelow}
 use Rattle.hall.specs.declared.Hall.{Hall}
 use Rattle.hall.specs.Cells.{t, subOver, neighbour}
+use Rattle.hall.specs.Halls.{most-n}
 use Rattle.ports.specs.Codes.{up}
 use Rattle.ports.specs.Links.{bothUp, touched}
 use Rattle.search.specs.Rounds.{start}
@@ -98,7 +99,7 @@ pub record SwitchFits (h : Hall) (s : ℕ) (room : List ℕ) : Type 0 where
 -- a round of a hall's scope in a room
 pub record RoundFits (h : Hall) (s size r : ℕ) (room : List ℕ) : Type 0 where
   pub n-low : 2 ≤ h .n
-  pub n-high : h .n ≤ 8
+  pub n-high : h .n ≤ most-n
   pub scope-high : s ≤ 2
   pub size-is : size ≡ t (h .n) s
   pub inside : size ≤ length room

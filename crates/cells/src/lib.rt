@@ -7,13 +7,15 @@ ghost use mathlib.Core.List.{[], _∷_};
 ghost use Prim.Native.Nat.{_≤_, _<_};
 ghost use Rattle.combine.specs.Lists.{upTo};
 ghost use Rattle.hall.specs.Refusals.{refusal};
-ghost use Rattle.hall.specs.Halls.{asksHall, asksUid, asksLevel};
+ghost use Rattle.hall.specs.Halls.{places, Sized, asksHall, asksUid, asksLevel};
 ghost use Rattle.hall.specs.Tuples.{entryFits, tupleFits, uidUpTo, tuple};
 ghost use Rattle.hall.specs.Answers.{sizeAt};
 ghost use Rattle.cells.specs.Answers.{uidOf, tupleOf, cellAround, neighbourOf, asksLink, linkBetween};
 use crate::joined::ends_over;
 use crate::joined::neighbour_over;
 use hall::Hall;
+use hall::PLACES;
+use hall::TOP;
 use hall::refusals::BAD_HALL;
 use hall::refusals::BAD_RANGE;
 use hall::refusals::BAD_UID;
@@ -27,7 +29,7 @@ pub struct Uid {
 // The tuple of a uid: place i holds a(i), zeros above k.
 pub struct Tuple {
     pub refusal: u32,
-    pub entries: [u32; 4],
+    pub entries: [u32; PLACES],
 }
 
 // The DCell around a server: its first uid, and its servers.
@@ -164,8 +166,8 @@ pub fn link_between(h: Hall, uid: u32, level: u32, p: u32, q: u32) -> Link
 }
 
 // Whether a place of a tuple is within its limit, and 0 above k.
-fn entry_fits(n: u32, k: u32, sizes: [u32; 4], entries: [u32; 4], i: u32) -> bool
-    requires { ⌜ (n ≤ 8) × (k ≤ 3) × (sizes ≡ upTo (sizeAt n k) 4) × (i < 4) ⌝ }
+fn entry_fits(n: u32, k: u32, sizes: [u32; PLACES], entries: [u32; PLACES], i: u32) -> bool
+    requires { ⌜ Sized n k × (sizes ≡ upTo (sizeAt n k) places) × (i < places) ⌝ }
     ensures { λ r. ⌜ r ≡ entryFits n k entries i ⌝ }
 {
     let at = i as usize;
@@ -181,12 +183,12 @@ fn entry_fits(n: u32, k: u32, sizes: [u32; 4], entries: [u32; 4], i: u32) -> boo
 }
 
 // Whether every place of a tuple is within its limit.
-fn tuple_fits(n: u32, k: u32, sizes: [u32; 4], entries: [u32; 4]) -> bool
-    requires { ⌜ (n ≤ 8) × (k ≤ 3) × (sizes ≡ upTo (sizeAt n k) 4) ⌝ }
+fn tuple_fits(n: u32, k: u32, sizes: [u32; PLACES], entries: [u32; PLACES]) -> bool
+    requires { ⌜ Sized n k × (sizes ≡ upTo (sizeAt n k) places) ⌝ }
     ensures { λ r. ⌜ r ≡ tupleFits n k entries ⌝ }
 {
     let mut i: u32 = 0;
-    while i < 4 {
+    while i <= TOP {
         if !entry_fits(n, k, sizes, entries, i) {
             return false;
         }
@@ -196,8 +198,8 @@ fn tuple_fits(n: u32, k: u32, sizes: [u32; 4], entries: [u32; 4]) -> bool
 }
 
 // The uid of a tuple that fits.
-fn uid_up_to(n: u32, k: u32, entries: [u32; 4]) -> u32
-    requires { ⌜ (n ≤ 8) × (k ≤ 3) × (tupleFits n k entries ≡ true) ⌝ }
+fn uid_up_to(n: u32, k: u32, entries: [u32; PLACES]) -> u32
+    requires { ⌜ Sized n k × (tupleFits n k entries ≡ true) ⌝ }
     ensures { λ r. ⌜ r ≡ uidUpTo n k entries ⌝ }
 {
     let mut uid = entries[0];
@@ -213,7 +215,7 @@ fn uid_up_to(n: u32, k: u32, entries: [u32; 4]) -> u32
 }
 
 // The uid of a tuple.
-pub fn uid_of(h: Hall, entries: [u32; 4]) -> Uid
+pub fn uid_of(h: Hall, entries: [u32; PLACES]) -> Uid
     ensures { λ r. ⌜ r ≡ uidOf h entries ⌝ }
 {
     let sizes = hall::sizes_of(h);
@@ -237,11 +239,11 @@ pub fn uid_of(h: Hall, entries: [u32; 4]) -> Uid
 }
 
 // The entries of a uid up to level k, zeros above.
-fn entries_up_to(n: u32, k: u32, uid: u32) -> [u32; 4]
-    requires { ⌜ (2 ≤ n) × (n ≤ 8) × (k ≤ 3) ⌝ }
+fn entries_up_to(n: u32, k: u32, uid: u32) -> [u32; PLACES]
+    requires { ⌜ (2 ≤ n) × Sized n k ⌝ }
     ensures { λ r. ⌜ r ≡ tuple n k uid ⌝ }
 {
-    let mut entries = [0u32; 4];
+    let mut entries = [0u32; PLACES];
     entries[0] = uid % n;
     let mut cell = uid / n;
     let mut s = n;
@@ -264,7 +266,7 @@ pub fn tuple_of(h: Hall, uid: u32) -> Tuple
     if number != 0 {
         return Tuple {
             refusal: number,
-            entries: [0u32; 4],
+            entries: [0u32; PLACES],
         };
     }
     Tuple {

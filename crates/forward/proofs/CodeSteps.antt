@@ -13,7 +13,7 @@ use Rattle.combine.proofs.Tests.{cases, never, both-left, both-right}
 use Rattle.hall.specs.declared.Hall.{Hall}
 use Rattle.hall.specs.Refusals.{refusal}
 use Rattle.hall.specs.Cells.{cell, same, neighbour}
-use Rattle.hall.specs.Halls.{servers, largest}
+use Rattle.hall.specs.Halls.{top, servers, largest}
 use Rattle.hall.proofs.Growth.{Valid, valid-known, uid-fits}
 use Rattle.cells.specs.declared.Neighbour.{Neighbour}
 use Rattle.cells.specs.Answers.{neighbourOf}
@@ -169,7 +169,7 @@ module _ (h : Hall) (table : List ℕ) (me : ℕ) (p : Packet) where
     link-of : {n1 n2 m : ℕ} → link ≡ Link n1 n2 m → ahead.Ahead h me n1 n2 m
     link-of e = ahead.link-ahead h (stand .here .sound) me (goal p) (stand .here .fits) (goal-fits stand) (sym (a .first) ∙ e)
 
-    pub level-low : (n1 n2 m : ℕ) → link ≡ Link n1 n2 m → m ≤ 3
+    pub level-low : (n1 n2 m : ℕ) → link ≡ Link n1 n2 m → m ≤ top
     level-low n1 n2 m e = let k = link-of e in omega (arith, k .level, k .high, v .k-high)
 
     -- without its proxy it still stands there

@@ -9,7 +9,7 @@ ghost use lib.Dec.{eqb, ltb};
 ghost use lib.ListN.{length, getD, replicate};
 ghost use Rattle.combine.specs.Tests.{pick, both, either};
 ghost use Rattle.hall.specs.Cells.{same, neighbour};
-ghost use Rattle.hall.specs.Halls.{valid};
+ghost use Rattle.hall.specs.Halls.{top, valid};
 ghost use Rattle.hall.specs.Refusals.{refusal, bad-length};
 ghost use Rattle.route.specs.Answers.{firstLink};
 ghost use Rattle.local.specs.Local.{none, placeOf, firstOf};
@@ -338,7 +338,7 @@ fn first_link(h: Hall, x: u32, y: u32) -> Crossing
 
 // The level that a reroute tries first.
 fn first_level(h: Hall, level: u32, arrived: bool) -> u32
-    requires { ⌜ level ≤ 3 ⌝ }
+    requires { ⌜ level ≤ top ⌝ }
     ensures { λ r. ⌜ r ≡ level + pick (both arrived (ltb level (h .k))) 1 0 ⌝ }
 {
     if !arrived {

@@ -19,7 +19,7 @@ use Rattle.hall.specs.declared.Hall.{Hall}
 use Rattle.hall.specs.declared.Sizes.{Sizes}
 use Rattle.hall.specs.Refusals.{refusal}
 use Rattle.hall.specs.Cells.{t, g}
-use Rattle.hall.specs.Halls.{places, nFits, kFits, bFits, valid, servers, largest}
+use Rattle.hall.specs.Halls.{places, top, most-n, Sized, nFits, kFits, bFits, valid, servers, largest}
 use Rattle.hall.specs.Answers.{sizeAt, sizeOf, sizesOf}
 use Rattle.hall.proofs.Cells.{t-pos}
 
@@ -40,18 +40,22 @@ pub t-grows : (n i : ℕ) → 0 < n → t n i < t n (suc i)
 unfolding t
 t-grows n i pos = let h = t-pos n pos i in omega (arith, mul-le-mul h h)
 
--- no hall is larger than that of n = 8, k = 3
-pub t-fits : (n i : ℕ) → n ≤ 8 → i ≤ 3 → t n i ≤ largest
+-- no hall is larger than that of the most servers on a switch and the highest level
+pub t-fits : (n k i : ℕ) → Sized n k → i ≤ k → t n i ≤ largest
 unfolding t
-t-fits n i h k = le-trans (t-more n 8 i h) (t-up 8 i 3 k)
+t-fits n k i s l = le-trans (t-more n most-n i (s .n-high)) (t-up most-n i top (omega (arith, s .k-high)))
+
+-- a DCell of a lower level has sizes that fit too
+pub sized-below : (n k i : ℕ) → Sized n k → i ≤ k → Sized n i
+sized-below n k i s l = record { n-high = s .n-high; k-high = omega (arith, s .k-high) }
 
 -- a size as the code works it out from the one before
 pub t-next : (n j s : ℕ) → s ≡ t n j → (s + 1) * s ≡ t n (j + 1)
 unfolding t
 t-next n j s e = rw (add-one j, e)
 
-pub next-fits : (n j s : ℕ) → n ≤ 8 → j < 3 → s ≡ t n j → (s + 1) * s ≤ largest
-next-fits n j s h k e = rw (t-next n j s e) (t-fits n (j + 1) h (omega arith))
+pub next-fits : (n k j s : ℕ) → Sized n k → j < k → s ≡ t n j → (s + 1) * s ≤ largest
+next-fits n k j s z l e = rw (t-next n j s e) (t-fits n k (j + 1) z (omega arith))
 
 pub g-next : (n j : ℕ) → g n (j + 1) ≡ t n j + 1
 unfolding g
@@ -65,8 +69,9 @@ g-at n (suc j) h = let e : suc j - 1 ≡ j = omega arith in rw e
 -- what is known of a valid hall
 pub record Valid (h : Hall) : Type 0 where
   pub n-low : 2 ≤ h .n
-  pub n-high : h .n ≤ 8
-  pub k-high : h .k ≤ 3
+  pub sized : Sized (h .n) (h .k)
+  pub n-high : h .n ≤ most-n
+  pub k-high : h .k ≤ top
   pub b-high : h .b ≤ 1
   pub b-low : h .b ≤ h .k
 
@@ -75,11 +80,14 @@ unfolding valid nFits kFits bFits
 valid-known h e =
     let n = both-left (nFits (h .n)) (both (kFits (h .n) (h .k)) (bFits (h .k) (h .b))) e in
     let kb = both-right (nFits (h .n)) (both (kFits (h .n) (h .k)) (bFits (h .k) (h .b))) e in
+    let n-high = leb-true (h .n) most-n (both-right (leb 2 (h .n)) (leb (h .n) most-n) n) in
+    let k-high = leb-true (h .k) top (both-left (kFits (h .n) (h .k)) (bFits (h .k) (h .b)) kb) in
     let b = leb-true (h .b) (min 1 (h .k)) (both-right (kFits (h .n) (h .k)) (bFits (h .k) (h .b)) kb) in
     record {
-      n-low = leb-true 2 (h .n) (both-left (leb 2 (h .n)) (leb (h .n) 8) n);
-      n-high = leb-true (h .n) 8 (both-right (leb 2 (h .n)) (leb (h .n) 8) n);
-      k-high = leb-true (h .k) 3 (both-left (kFits (h .n) (h .k)) (bFits (h .k) (h .b)) kb);
+      n-low = leb-true 2 (h .n) (both-left (leb 2 (h .n)) (leb (h .n) most-n) n);
+      sized = record { n-high = n-high; k-high = k-high };
+      n-high = n-high;
+      k-high = k-high;
       b-high = omega arith;
       b-low = omega arith;
     }
@@ -89,7 +97,7 @@ pub valid-pos : (h : Hall) → Valid h → (i : ℕ) → 0 < t (h .n) i
 valid-pos h v i = t-pos (h .n) (omega arith) i
 
 pub valid-size : (h : Hall) → Valid h → (i : ℕ) → i ≤ h .k → t (h .n) i ≤ largest
-valid-size h v i l = t-fits (h .n) i (v .n-high) (omega arith)
+valid-size h v i l = t-fits (h .n) (h .k) i (v .sized) l
 
 -- a valid hall has servers, and one that is not has none to show
 module _ (h : Hall) (r : ℕ) (e : r ≡ pick (valid h) (servers h) 0) where
@@ -123,7 +131,7 @@ unfolding sizeOf
 size-of h i s v l e = e ∙ rw v (size-at (h .n) (h .k) i l)
 
 -- a size up to level k, read off the sizes
-pub size-read : (n k i : ℕ) (sizes : List ℕ) → k ≤ 3 → i ≤ k → sizes ≡ upTo (sizeAt n k) places → getD sizes i 0 ≡ t n i
+pub size-read : (n k i : ℕ) (sizes : List ℕ) → k ≤ top → i ≤ k → sizes ≡ upTo (sizeAt n k) places → getD sizes i 0 ≡ t n i
 size-read n k i sizes h l e =
     ap (λ (r : List ℕ). getD r i 0) e ∙ getD-upTo (sizeAt n k) places i 0 (omega arith) ∙ size-at n k i l
 

@@ -101,40 +101,40 @@ module _ (n : ℕ) where
       up e = from (k - i) (omega arith) e i (omega arith) (omega arith)
 
 -- tuples of the fixed number of places
-pub tuple-at : (n k u i : ℕ) → i < 4 → i ≤ k → getD (tuple n k u) i 0 ≡ entry n i u
+pub tuple-at : (n k u i : ℕ) → i < places → i ≤ k → getD (tuple n k u) i 0 ≡ entry n i u
 unfolding entryAt
-tuple-at n k u i h l = getD-upTo (entryAt n k u) 4 i 0 h ∙ rw (le-leb i k l)
+tuple-at n k u i h l = getD-upTo (entryAt n k u) places i 0 h ∙ rw (le-leb i k l)
 
-pub tuple-above : (n k u i : ℕ) → i < 4 → k < i → getD (tuple n k u) i 0 ≡ 0
+pub tuple-above : (n k u i : ℕ) → i < places → k < i → getD (tuple n k u) i 0 ≡ 0
 unfolding entryAt
-tuple-above n k u i h l = getD-upTo (entryAt n k u) 4 i 0 h ∙ rw (lt-leb i k l)
+tuple-above n k u i h l = getD-upTo (entryAt n k u) places i 0 h ∙ rw (lt-leb i k l)
 
 -- what a tuple that fits has
-pub fits-within : (n k : ℕ) (a : List ℕ) → k < 4 → tupleFits n k a ≡ true → Within n a k
+pub fits-within : (n k : ℕ) (a : List ℕ) → k < places → tupleFits n k a ≡ true → Within n a k
 unfolding tupleFits entryFits
 fits-within n k a h e j l =
-    let f = all-each (entryFits n k a) 4 e j (omega arith) in
+    let f = all-each (entryFits n k a) places e j (omega arith) in
     ltb-true (getD a j 0) (limit n j) (rw (le-leb j k l) at f)
 
-pub fits-above : (n k : ℕ) (a : List ℕ) → tupleFits n k a ≡ true → (i : ℕ) → i < 4 → k < i → getD a i 0 ≡ 0
+pub fits-above : (n k : ℕ) (a : List ℕ) → tupleFits n k a ≡ true → (i : ℕ) → i < places → k < i → getD a i 0 ≡ 0
 unfolding tupleFits entryFits
 fits-above n k a e i h l =
-    let f = all-each (entryFits n k a) 4 e i h in
+    let f = all-each (entryFits n k a) places e i h in
     eqb-true (getD a i 0) 0 (rw (lt-leb i k l) at f)
 
 -- the tuple of a server fits
 pub tuple-fits : (n k u : ℕ) → 0 < n → tupleFits n k (tuple n k u) ≡ true
 unfolding tupleFits entryFits
-tuple-fits n k u pos = each-all (entryFits n k (tuple n k u)) 4 (λ i h. cases (leb i k)
+tuple-fits n k u pos = each-all (entryFits n k (tuple n k u)) places (λ i h. cases (leb i k)
     (λ q. let l = leb-true i k q in rw (q, tuple-at n k u i h l) (lt-ltb (entry n i u) (limit n i) (entry-below n pos u i)))
     (λ q. let l = leb-false i k q in rw (q, tuple-above n k u i h l)))
 
 -- the uid of a server's tuple is the server
-pub uid-tuple : (n k u : ℕ) → 0 < n → k < 4 → u < t n k → uidUpTo n k (tuple n k u) ≡ u
+pub uid-tuple : (n k u : ℕ) → 0 < n → k < places → u < t n k → uidUpTo n k (tuple n k u) ≡ u
 uid-tuple n k u pos h l = uid-of-entries n pos (tuple n k u) u k (λ j m. tuple-at n k u j (omega arith) m) ∙ mod-eq-of-lt l
 
 -- the tuple of a tuple's uid is the tuple, place by place
-pub tuple-uid : (n k : ℕ) (a : List ℕ) → k < 4 → tupleFits n k a ≡ true → (i : ℕ) → i < 4 → getD (tuple n k (uidUpTo n k a)) i 0 ≡ getD a i 0
+pub tuple-uid : (n k : ℕ) (a : List ℕ) → k < places → tupleFits n k a ≡ true → (i : ℕ) → i < places → getD (tuple n k (uidUpTo n k a)) i 0 ≡ getD a i 0
 tuple-uid n k a h e i l = cases (leb i k)
     (λ q. let m = leb-true i k q in
     let z : 0 * t n k + uidUpTo n k a ≡ uidUpTo n k a = omega arith in

@@ -1,16 +1,24 @@
 -- Which halls there are, and what a call asks of a hall and a uid.
 -- Section "The hall and its numbers".
 use mathlib.Core.Bool.{Bool, true, false}
-use Prim.Native.Nat.{ℕ, min, _+_}
+use Prim.Native.Nat.{ℕ, min, _+_, _≤_}
 use lib.Dec.{eqb, leb, ltb}
 use Rattle.combine.specs.Tests.{both}
 use Rattle.hall.specs.declared.Hall.{Hall}
 use Rattle.hall.specs.Refusals.{Ask, bad-hall, bad-uid, bad-range}
 use Rattle.hall.specs.Cells.{t}
 
+-- the most servers on a mini-switch
+abbrev pub most-n : ℕ
+most-n = 8
+
+-- the highest level that a hall may have
+abbrev pub top : ℕ
+top = 3
+
 -- the places of a tuple, one for each level that a hall may have
 abbrev pub places : ℕ
-places = 4
+places = top + 1
 
 -- the servers of the largest hall
 abbrev pub largest : ℕ
@@ -20,13 +28,18 @@ largest = 27630792
 abbrev pub hallOf : ℕ → ℕ → ℕ → Hall
 hallOf n k b = record { n = n; k = k; b = b }
 
+-- a hall of n servers to a switch and top level k has sizes that fit: none is above the largest (`t-fits`)
+pub record Sized (n k : ℕ) : Type 0 where
+  pub n-high : n ≤ most-n
+  pub k-high : k ≤ top
+
 -- n 2 to 8
 unfoldable pub nFits : ℕ → Bool
-nFits n = both (leb 2 n) (leb n 8)
+nFits n = both (leb 2 n) (leb n most-n)
 
 -- k 0 to 3
 unfoldable pub kFits : ℕ → ℕ → Bool
-kFits n k = leb k 3
+kFits n k = leb k top
 
 -- b 0 to the smaller of 1 and k
 unfoldable pub bFits : ℕ → ℕ → Bool

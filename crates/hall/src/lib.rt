@@ -2,13 +2,19 @@
 pub mod refusals;
 
 ghost use mathlib.Core.Path.{_≡_};
-ghost use Prim.Native.Nat.{_≤_};
 ghost use Rattle.combine.specs.Tests.{pick};
 ghost use Rattle.combine.specs.Lists.{upTo};
 ghost use Rattle.hall.specs.Cells.{t};
-ghost use Rattle.hall.specs.Halls.{nFits, kFits, bFits, valid, servers};
+ghost use Rattle.hall.specs.Halls.{places, Sized, nFits, kFits, bFits, valid, servers};
 ghost use Rattle.hall.specs.Answers.{sizeAt, sizeOf, sizesOf};
 use crate::refusals::BAD_HALL;
+
+// The most servers on a mini-switch.
+pub const MOST_N: u32 = 8;
+// The highest level that a hall may have.
+pub const TOP: u32 = 3;
+// The places of a tuple, one for each level that a hall may have.
+pub const PLACES: usize = 4;
 
 // A hall: n servers on a mini-switch, top level k, local level b.
 pub struct Hall {
@@ -20,7 +26,7 @@ pub struct Hall {
 // The sizes of a hall: t(0) .. t(k), zeros above k.
 pub struct Sizes {
     pub refusal: u32,
-    pub t: [u32; 4],
+    pub t: [u32; PLACES],
 }
 
 // Whether n is in its range.
@@ -30,14 +36,14 @@ pub fn n_fits(n: u32) -> bool
     if n < 2 {
         return false;
     }
-    n <= 8
+    n <= MOST_N
 }
 
 // Whether k is in its range, in a hall of n servers to a switch.
 pub fn k_fits(n: u32, k: u32) -> bool
     ensures { λ r. ⌜ r ≡ kFits n k ⌝ }
 {
-    k <= 3
+    k <= TOP
 }
 
 // Whether b is in its range, in a hall of top level k.
@@ -65,7 +71,7 @@ fn is_valid(h: Hall) -> bool
 
 // The servers of a DCell of level i.
 fn size(n: u32, i: u32) -> u32
-    requires { ⌜ (n ≤ 8) × (i ≤ 3) ⌝ }
+    requires { ⌜ Sized n i ⌝ }
     ensures { λ r. ⌜ r ≡ t n i ⌝ }
 {
     let mut s = n;
@@ -101,11 +107,11 @@ pub fn size_of(h: Hall, i: u32) -> u32
 }
 
 // The sizes up to level k, zeros above.
-fn sizes_up_to(n: u32, k: u32) -> [u32; 4]
-    requires { ⌜ (n ≤ 8) × (k ≤ 3) ⌝ }
-    ensures { λ r. ⌜ r ≡ upTo (sizeAt n k) 4 ⌝ }
+fn sizes_up_to(n: u32, k: u32) -> [u32; PLACES]
+    requires { ⌜ Sized n k ⌝ }
+    ensures { λ r. ⌜ r ≡ upTo (sizeAt n k) places ⌝ }
 {
-    let mut t = [0u32; 4];
+    let mut t = [0u32; PLACES];
     let mut s = n;
     let mut i: u32 = 0;
     while i < k {
@@ -126,7 +132,7 @@ pub fn sizes_of(h: Hall) -> Sizes
     if !is_valid(h) {
         return Sizes {
             refusal: BAD_HALL,
-            t: [0u32; 4],
+            t: [0u32; PLACES],
         };
     }
     Sizes {

@@ -7,7 +7,7 @@ ghost use lib.ListN.{length, replicate};
 ghost use Rattle.combine.specs.Tests.{pick, both, anyBelow};
 ghost use Rattle.hall.specs.Refusals.{refusal};
 ghost use Rattle.hall.specs.Cells.{neighbour};
-ghost use Rattle.hall.specs.Halls.{valid, servers, asksHall, asksUid};
+ghost use Rattle.hall.specs.Halls.{most-n, valid, servers, asksHall, asksUid};
 ghost use Rattle.ports.specs.Codes.{up};
 ghost use Rattle.ports.specs.Links.{onSwitch, bothUp, switchHas};
 ghost use Rattle.ports.specs.Answers.{asksCell};
@@ -131,7 +131,7 @@ fn is_live(h: Hall, table: &[u8], d: &[u8; 72], r: u8, s: u32) -> bool
 
 // The place of the level-1 neighbour of server i on switch s.
 fn neighbour_place(n: u32, s: u32, i: u32) -> u32
-    requires { ⌜ (n ≤ 8) × (i < n) × (s ≤ n) ⌝ }
+    requires { ⌜ (n ≤ most-n) × (i < n) × (s ≤ n) ⌝ }
     ensures { λ r. ⌜ r ≡ neighbour n 0 (s * n + i) ⌝ }
 {
     if s <= i {

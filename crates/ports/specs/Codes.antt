@@ -9,7 +9,7 @@ use lib.ListN.{length, getD, take, drop}
 use Rattle.combine.specs.Tests.{pick, both}
 use Rattle.hall.specs.declared.Hall.{Hall}
 use Rattle.hall.specs.Cells.{t, cell}
-use Rattle.hall.specs.Halls.{servers}
+use Rattle.hall.specs.Halls.{places, largest, servers}
 
 -- no port is fitted there
 abbrev pub not-fitted : ℕ
@@ -56,6 +56,10 @@ up h table server port = eqb (codeOf h table server port) code-up
 -- the bytes of a hall table
 unfoldable pub tableLength : Hall → ℕ
 tableLength h = servers h * (h .k + 1)
+
+-- the bytes of the largest hall table
+abbrev pub largest-table : ℕ
+largest-table = largest * places
 
 -- the bytes of the table of a DCell of level i
 unfoldable pub cellLength : Hall → ℕ → ℕ

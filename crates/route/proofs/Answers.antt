@@ -15,7 +15,7 @@ use Rattle.hall.specs.declared.Hall.{Hall}
 use Rattle.hall.specs.declared.Sizes.{Sizes}
 use Rattle.hall.specs.Refusals.{refusal}
 use Rattle.hall.specs.Cells.{t, same}
-use Rattle.hall.specs.Halls.{valid, servers}
+use Rattle.hall.specs.Halls.{top, places, valid, servers}
 use Rattle.hall.specs.Answers.{sizesOf}
 use Rattle.hall.proofs.Growth.{Valid, valid-known, valid-size, sizes-given, sizes-at}
 use Rattle.hall.proofs.Links.{hall-same}
@@ -66,8 +66,8 @@ whole-hall h sizes x y G hx hy = record {
 }
 
 -- room for the longest route of a hall
-power-fits : (k : ℕ) → k ≤ 3 → 2 ^ suc k ≤ longest
-power-fits k h = pow-mono {i = suc k} {j = 4} (omega arith)
+power-fits : (k : ℕ) → k ≤ top → 2 ^ suc k ≤ longest
+power-fits k h = pow-mono {i = suc k} {j = places} (omega arith)
 
 shared : (h : Hall) (x y : ℕ) → Valid h → x < servers h → y < servers h → same (h .n) (h .k) x y ≡ true
 unfolding servers

@@ -14,7 +14,7 @@ use Rattle.route.specs.declared.FirstLink.{FirstLink}
 use Rattle.route.specs.declared.Crossing.the-variants.{Link, Nothing}
 use Rattle.route.specs.Routes.{route, hops, levelOf}
 
--- the servers of the longest route: 15 links
+-- the servers of the longest route: 15 links, those of the highest level
 abbrev pub longest : ℕ
 longest = 16
 

@@ -10,6 +10,7 @@ ghost use Rattle.route.specs.Routes.{route};
 ghost use Rattle.route.specs.Answers.{longest, noRoute, routeBetween, firstAbove, noLink, firstLinkOf};
 ghost use Rattle.route.specs.Filling.{inSwitch, perSwitch, Inside, Room};
 use hall::Hall;
+use hall::PLACES;
 use hall::refusals::BAD_UID;
 
 // The servers of the longest route.
@@ -69,7 +70,7 @@ fn put(x: u32, y: u32, uids: &mut [u32; LONGEST], at: usize) -> usize
 
 // Writes the route between two places of the DCell that starts at `first`, from place `at` on, and answers the place behind it.
 fn fill(
-    sizes: &[u32; 4],
+    sizes: &[u32; PLACES],
     level: usize,
     first: u32,
     from: u32,
@@ -113,7 +114,7 @@ fn no_uids() -> [u32; LONGEST]
 }
 
 // The first link above level b of the route from x to y.
-fn first_above(sizes: &[u32; 4], b: u32, k: u32, x: u32, y: u32) -> Crossing
+fn first_above(sizes: &[u32; PLACES], b: u32, k: u32, x: u32, y: u32) -> Crossing
     requires { ⌜ Inside (now sizes) k 0 x y ⌝ }
     ensures { λ r. ⌜ r ≡ firstAbove (perSwitch (now (sizes .entry))) b k x y ⌝ }
 {

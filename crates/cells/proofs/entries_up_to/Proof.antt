@@ -11,6 +11,7 @@ use borrow.Author.Tests.{le-leb, lt-leb}
 use Rattle.combine.specs.Lists.{upTo}
 use Rattle.combine.proofs.Lists.{up-more, up-zeros, length-up}
 use Rattle.hall.specs.Cells.{t, cell}
+use Rattle.hall.specs.Halls.{places, largest}
 use Rattle.hall.specs.Tuples.{entry, entryAt}
 use Rattle.hall.proofs.Cells.{cell-up, cell-sub}
 use Rattle.hall.proofs.Growth.{t-fits, t-next, next-fits}
@@ -19,7 +20,7 @@ use Rattle.cells.proofs.entries_up_to.Tie as tie
 
 -- the places below i are filled
 abbrev Filled : ℕ → ℕ → ℕ → ℕ → List ℕ → Type 0
-Filled n k u i a = a ≡ upTo (entryAt n k u) i ++ drop i (replicate 4 0)
+Filled n k u i a = a ≡ upTo (entryAt n k u) i ++ drop i (replicate places 0)
 
 abbrev Inv-loop : tie.InvT-loop
 Inv-loop n k uid entries₀ cell₀ s₀ i₀ entries left s i = (i ≤ k) × (s ≡ t n i) × (left ≡ cell n i uid) × Filled n k uid (i + 1) entries
@@ -35,10 +36,10 @@ above : (n k u i : ℕ) → k < i → entryAt n k u i ≡ 0
 unfolding entryAt
 above n k u i h = rw (lt-leb i k h)
 
-four : (n k u i : ℕ) (a : List ℕ) → i ≤ 4 → Filled n k u i a → length a ≡ 4
-four n k u i a h e = rw e (length-up (entryAt n k u) (replicate 4 0) i h)
+long : (n k u i : ℕ) (a : List ℕ) → i ≤ places → Filled n k u i a → length a ≡ places
+long n k u i a h e = rw e (length-up (entryAt n k u) (replicate places 0) i h)
 
-first : (n k u : ℕ) → Filled n k u 1 (set (replicate 4 0) 0 (u % n))
+first : (n k u : ℕ) → Filled n k u 1 (set (replicate places 0) 0 (u % n))
 unfolding upTo entry entryAt
 first n k u = rw (le-leb 0 k (omega arith))
 
@@ -49,8 +50,8 @@ next n k u i s v h e f = rw (e, f, cell-sub n i u, entry-at n k u (i + 1) (omega
 up : (n u i s v : ℕ) → s ≡ t n i → v ≡ cell n i u → v / (s + 1) ≡ cell n (i + 1) u
 up n u i s v e f = rw (e, f, cell-up n i u, add-one i)
 
-store : (n k u i v : ℕ) (a : List ℕ) → i < 4 → v ≡ entryAt n k u i → Filled n k u i a → Filled n k u (i + 1) (set a i v)
-store n k u i v a h e f = rw (f, e) (up-more (entryAt n k u) (replicate 4 0) i h)
+store : (n k u i v : ℕ) (a : List ℕ) → i < places → v ≡ entryAt n k u i → Filled n k u i a → Filled n k u (i + 1) (set a i v)
+store n k u i v a h e f = rw (f, e) (up-more (entryAt n k u) (replicate places 0) i h)
 
 rem-entries : tie.Need-rem-entries Inv-loop μ-loop
 rem-entries c = search needs
@@ -71,8 +72,8 @@ add-at c = omega arith
 cast-at : tie.Need-cast-at Inv-loop μ-loop
 cast-at c = omega arith
 
-size-fits : (c : tie.In-loop Inv-loop μ-loop) → c .before .loop .s ≤ 27630792
-size-fits c = omega (arith, t-fits (c .before .before .args .n) (c .before .loop .i) (omega arith) (omega arith))
+size-fits : (c : tie.In-loop Inv-loop μ-loop) → c .before .loop .s ≤ largest
+size-fits c = omega (arith, t-fits _ _ (c .before .loop .i) (c .before .before .pre .1) (omega arith))
 
 add-entries : tie.Need-add-entries Inv-loop μ-loop
 add-entries c = omega (arith, size-fits c)
@@ -84,7 +85,7 @@ mul-entries : tie.Need-mul-entries Inv-loop μ-loop
 mul-entries c = omega arith
 
 array-write-entries-2 : tie.Need-array-write-entries-2 Inv-loop μ-loop
-array-write-entries-2 c = let w = c .before .loop in omega (arith, four _ _ _ (w .i + 1) (w .entries) (omega arith) (w .inv .3))
+array-write-entries-2 c = let w = c .before .loop in omega (arith, long _ _ _ (w .i + 1) (w .entries) (omega arith) (w .inv .3))
 
 add-cell : tie.Need-add-cell Inv-loop μ-loop
 add-cell c = omega (arith, size-fits c)
@@ -96,7 +97,7 @@ add-s : tie.Need-add-s Inv-loop μ-loop
 add-s c = omega (arith, size-fits c)
 
 mul-s : tie.Need-mul-s Inv-loop μ-loop
-mul-s c = omega (arith, next-fits (c .before .before .args .n) (c .before .loop .i) (c .before .loop .s) (omega arith) (omega arith) (c .before .loop .inv .1))
+mul-s c = omega (arith, next-fits _ _ (c .before .loop .i) (c .before .loop .s) (c .before .before .pre .1) (omega arith) (c .before .loop .inv .1))
 
 add-i : tie.Need-add-i Inv-loop μ-loop
 add-i c = omega arith
@@ -118,7 +119,7 @@ returns : tie.Need-returns Inv-loop μ-loop
 returns c =
     let w = c .before .loop in
     let a = c .before .before .args in
-    w .inv .3 ∙ up-zeros (entryAt (a .n) (a .k) (a .uid)) (w .i + 1) 4 (omega arith) (λ i l _. above (a .n) (a .k) (a .uid) i (omega arith))
+    w .inv .3 ∙ up-zeros (entryAt (a .n) (a .k) (a .uid)) (w .i + 1) places (omega arith) (λ i l _. above (a .n) (a .k) (a .uid) i (omega arith))
 
 pub entries-up-to-spec : {M : Type 1} → statement M
 entries-up-to-spec =

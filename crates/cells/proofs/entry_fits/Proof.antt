@@ -54,10 +54,10 @@ array-read-result : tie.Need-array-read-result
 array-read-result c = search needs
 
 sized : (c : tie.Else2) → let a = c .before .before .args in getD (a .t3) (a .i - 1) 0 ≡ t (a .n) (a .i - 1)
-sized c = let s = c .before .before in size-read (s .args .n) (s .args .k) (s .args .i - 1) (s .args .t3) (s .pre .1) (omega arith) (s .pre .2)
+sized c = let s = c .before .before in size-read (s .args .n) (s .args .k) (s .args .i - 1) (s .args .t3) (s .pre .0 .k-high) (omega arith) (s .pre .1)
 
 add-result : tie.Need-add-result
-add-result c = let a = c .before .before .args in omega (arith, t-fits (a .n) (a .i - 1) (omega arith) (omega arith), sized c)
+add-result c = let s = c .before .before in omega (arith, t-fits _ _ (s .args .i - 1) (s .pre .0) (omega arith), sized c)
 
 returns-3 : tie.Need-returns-3
 returns-3 c = between _ _ _ _ _ (c .before .if1 .left) (c .if2 .left) (sized c)

@@ -14,7 +14,7 @@ returns c = let r = c .before .refused-uid in rw (refused-test (r .ensures) (c .
 entries-up-to-requires : tie.Need-entries-up-to-requires
 entries-up-to-requires c κs =
     let k = uid-known _ _ (sym (c .before .refused-uid .ensures) ∙ c .if1 .left) .known in
-    (k .n-low, k .n-high, k .k-high)
+    (k .n-low, k .sized)
 
 returns-2 : tie.Need-returns-2
 returns-2 c = rw (sound-test (c .before .before .refused-uid .ensures) (c .before .if1 .left), c .entries-up-to .ensures)

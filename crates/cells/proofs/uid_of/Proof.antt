@@ -27,7 +27,7 @@ tuple-fits-requires c κs =
     let e = c .before in
     let s = e .before .before .sizes-of in
     let k = valid-known _ (sound e) in
-    (k .n-high, k .k-high, sizes-listed _ (s .result) (s .ensures) (sound e))
+    (k .sized, sizes-listed _ (s .result) (s .ensures) (sound e))
 
 returns-2 : tie.Need-returns-2
 unfolding refusal
@@ -39,7 +39,7 @@ uid-up-to-requires : tie.Need-uid-up-to-requires
 uid-up-to-requires c κs =
     let k = valid-known _ (sound (c .before .before .before)) in
     let f = c .before .tuple-fits in
-    (k .n-high, k .k-high, sym (f .ensures) ∙ not-false (f .result) (c .if2 .left))
+    (k .sized, sym (f .ensures) ∙ not-false (f .result) (c .if2 .left))
 
 returns-3 : tie.Need-returns-3
 unfolding refusal

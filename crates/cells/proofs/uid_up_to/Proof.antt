@@ -8,6 +8,7 @@ use native.Mathlib.Numerals.{add-one}
 use native.Mathlib.Omega.{arith}
 use lib.ListN.{getD, length}
 use Rattle.hall.specs.Cells.{t}
+use Rattle.hall.specs.Halls.{places, largest, Sized}
 use Rattle.hall.specs.Tuples.{uidUpTo, tupleFits}
 use Rattle.hall.proofs.Growth.{t-fits, t-next, next-fits}
 use Rattle.hall.proofs.Tuples.{uid-below, fits-within}
@@ -25,14 +26,14 @@ more : (n i s u : ℕ) (a : List ℕ) → s ≡ t n i → u ≡ uidUpTo n i a �
 unfolding uidUpTo
 more n i s u a e f = rw (add-one i, e, f)
 
-sum-fits : (n k i s u : ℕ) (a : List ℕ) → n ≤ 8 → k ≤ 3 → tupleFits n k a ≡ true → i < k → s ≡ t n i → u ≡ uidUpTo n i a
-    → u + getD a (i + 1) 0 * s < 27630792
-sum-fits n k i s u a h l f m e q =
-    let b = uid-below n a (i + 1) (λ j r. fits-within n k a (omega arith) f j (omega arith)) in
-    omega (arith, more n i s u a e q, t-fits n (i + 1) h (omega arith))
+sum-fits : (n k i s u : ℕ) (a : List ℕ) → Sized n k → tupleFits n k a ≡ true → i < k → s ≡ t n i → u ≡ uidUpTo n i a
+    → u + getD a (i + 1) 0 * s < largest
+sum-fits n k i s u a z f m e q =
+    let b = uid-below n a (i + 1) (λ j r. fits-within n k a (omega (arith, z .k-high)) f j (omega arith)) in
+    omega (arith, more n i s u a e q, t-fits n k (i + 1) z (omega arith))
 
-four : (c : tie.Start Inv-loop μ-loop) → length (c .args .t3) ≡ 4
-four c = search needs
+long : (c : tie.Start Inv-loop μ-loop) → length (c .args .t3) ≡ places
+long c = search needs
 
 array-read-uid : tie.Need-array-read-uid Inv-loop μ-loop
 array-read-uid c = search needs
@@ -51,13 +52,13 @@ mul-uid : tie.Need-mul-uid Inv-loop μ-loop
 mul-uid c = omega arith
 
 array-read-uid-2 : tie.Need-array-read-uid-2 Inv-loop μ-loop
-array-read-uid-2 c = omega (arith, four (c .before .before))
+array-read-uid-2 c = omega (arith, long (c .before .before))
 
-fits : (c : tie.In-loop Inv-loop μ-loop) → c .before .loop .uid + getD (c .before .before .args .t3) (c .before .loop .i + 1) 0 * c .before .loop .s < 27630792
+fits : (c : tie.In-loop Inv-loop μ-loop) → c .before .loop .uid + getD (c .before .before .args .t3) (c .before .loop .i + 1) 0 * c .before .loop .s < largest
 fits c =
     let w = c .before .loop in
     let p = c .before .before .pre in
-    sum-fits _ _ (w .i) (w .s) (w .uid) _ (p .0) (p .1) (p .2) (omega arith) (w .inv .1) (w .inv .2)
+    sum-fits _ _ (w .i) (w .s) (w .uid) _ (p .0) (p .1) (omega arith) (w .inv .1) (w .inv .2)
 
 mul-uid-2 : tie.Need-mul-uid-2 Inv-loop μ-loop
 mul-uid-2 c = omega (arith, fits c)
@@ -66,10 +67,10 @@ add-uid : tie.Need-add-uid Inv-loop μ-loop
 add-uid c = omega (arith, fits c)
 
 add-s : tie.Need-add-s Inv-loop μ-loop
-add-s c = omega (arith, t-fits (c .before .before .args .n) (c .before .loop .i) (omega arith) (omega arith))
+add-s c = omega (arith, t-fits _ _ (c .before .loop .i) (c .before .before .pre .0) (omega arith))
 
 mul-s : tie.Need-mul-s Inv-loop μ-loop
-mul-s c = omega (arith, next-fits (c .before .before .args .n) (c .before .loop .i) (c .before .loop .s) (omega arith) (omega arith) (c .before .loop .inv .1))
+mul-s c = omega (arith, next-fits _ _ (c .before .loop .i) (c .before .loop .s) (c .before .before .pre .0) (omega arith) (c .before .loop .inv .1))
 
 add-i : tie.Need-add-i Inv-loop μ-loop
 add-i c = omega arith

@@ -18,10 +18,10 @@ unfolding t
 loop-holds c = (omega arith, refl)
 
 add-s : tie.Need-add-s Inv-loop μ-loop
-add-s c = omega (arith, t-fits (c .before .before .args .n) (c .before .loop .j) (omega arith) (omega arith))
+add-s c = omega (arith, t-fits _ _ (c .before .loop .j) (c .before .before .pre) (omega arith))
 
 mul-s : tie.Need-mul-s Inv-loop μ-loop
-mul-s c = omega (arith, next-fits (c .before .before .args .n) (c .before .loop .j) (c .before .loop .s) (omega arith) (omega arith) (c .before .loop .inv .1))
+mul-s c = omega (arith, next-fits _ _ (c .before .loop .j) (c .before .loop .s) (c .before .before .pre) (omega arith) (c .before .loop .inv .1))
 
 add-j : tie.Need-add-j Inv-loop μ-loop
 add-j c = omega arith

@@ -2,9 +2,8 @@
 use borrow.Author.Needs.{needs}
 use borrow.Author.Tests.{not-true, not-false}
 use mathlib.Core.Path.{_≡_, sym, _∙_}
-use native.Mathlib.Omega.{arith}
 use Rattle.hall.specs.Answers.{sizeOf}
-use Rattle.hall.proofs.Growth.{valid-known, size-at, size-above}
+use Rattle.hall.proofs.Growth.{valid-known, sized-below, size-at, size-above}
 use Rattle.hall.proofs.size_of.Statement.{statement}
 use Rattle.hall.proofs.size_of.Tie as tie
 
@@ -25,7 +24,7 @@ size-requires : tie.Need-size-requires
 size-requires c κs =
     let v = c .before .before .before .is-valid in
     let k = valid-known _ (sym (v .ensures) ∙ not-false (v .result) (c .before .before .if1 .left)) in
-    (k .n-high, omega (arith, k .k-high))
+    sized-below _ _ _ (k .sized) (c .if2 .left)
 
 returns-3 : tie.Need-returns-3
 unfolding sizeOf

@@ -17,8 +17,7 @@ returns c = let v = c .before .is-valid in rw (← v .ensures, not-true (v .resu
 sizes-up-to-requires : tie.Need-sizes-up-to-requires
 sizes-up-to-requires c κs =
     let v = c .before .is-valid in
-    let k = valid-known _ (sym (v .ensures) ∙ not-false (v .result) (c .if1 .left)) in
-    (k .n-high, k .k-high)
+    valid-known _ (sym (v .ensures) ∙ not-false (v .result) (c .if1 .left)) .sized
 
 returns-2 : tie.Need-returns-2
 unfolding refusal
