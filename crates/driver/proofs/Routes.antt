@@ -1,4 +1,4 @@
--- A route that is answered has at most 15 links, refused or not, so its uids are a part of the answer's array.
+-- A route that is answered has fewer links than the longest has servers, refused or not, so its uids are a part of the answer's array.
 use mathlib.Core.Path.{refl, sym, _∙_}
 use mathlib.Core.List.{List, [], _∷_}
 use Prim.Native.Nat.{ℕ, _+_, _-_, _<_, _≤_}
@@ -12,10 +12,10 @@ use Rattle.hall.specs.Refusals.{refusal}
 use Rattle.hall.specs.Halls.{servers, asksHall, asksUid}
 use Rattle.hall.proofs.Asks.{unrefused-hold}
 use Rattle.hall.proofs.Growth.{valid-known}
-use Rattle.route.specs.Answers.{inHall, routeBetween}
+use Rattle.route.specs.Answers.{longest, inHall, routeBetween}
 use Rattle.route.proofs.Answers.{in-hall-length}
 
-pub route-short : (h : Hall) (x y : ℕ) → routeBetween h x y .links ≤ 15
+pub route-short : (h : Hall) (x y : ℕ) → routeBetween h x y .links < longest
 route-short h x y =
     cases (eqb (refusal (asksHall h ∷ asksUid h x ∷ asksUid h y ∷ [])) 0)
     (λ e.

@@ -14,11 +14,11 @@ use Rattle.combine.specs.Tests.{pick, both}
 use Rattle.combine.proofs.Tests.{cases, never}
 use Rattle.hall.specs.declared.Hall.{Hall}
 use Rattle.hall.specs.Cells.{t, cell}
-use Rattle.hall.specs.Halls.{valid, servers, asksHall, asksUid}
+use Rattle.hall.specs.Halls.{places, valid, servers, asksHall, asksUid}
 use Rattle.hall.specs.Refusals.{refusal, inOrder, bad-hall, bad-length, bad-uid, bad-code}
 use Rattle.hall.proofs.Asks.{refusal-in-order, unrefused-hold}
 use Rattle.hall.proofs.Growth.{Valid, valid-known, valid-pos, valid-size, valid-servers, some-servers}
-use Rattle.ports.specs.Codes.{allKnown, firstUnknown, codeOf, up, tableLength, cellLength, run}
+use Rattle.ports.specs.Codes.{largest-table, allKnown, firstUnknown, codeOf, up, tableLength, cellLength, run}
 use Rattle.ports.specs.Answers.{asksTable, checkOf, partRefusal, partOf}
 use Rattle.ports.specs.declared.TableCheck.{TableCheck}
 use Rattle.ports.proofs.Tables.{all-known, some-unknown}
@@ -73,12 +73,12 @@ unfolding tableLength
 bytes-are h r s e ne f = f ∙ ap (λ (x : ℕ). x * (h .k + 1)) (valid-servers h r e (some-servers h r e ne))
 
 -- an index of a hall table is a 32-bit number
-pub table-fits : (h : Hall) → valid h ≡ true → tableLength h ≤ 110523168
+pub table-fits : (h : Hall) → valid h ≡ true → tableLength h ≤ largest-table
 unfolding tableLength servers
 table-fits h v =
     let k = valid-known h v in
     let a = valid-size h k (h .k) (omega arith) in
-    let b : h .k + 1 ≤ 4 = omega arith in
+    let b : h .k + 1 ≤ places = omega arith in
     omega (arith, mul-le-mul a b)
 
 -- the four answers of the table check
