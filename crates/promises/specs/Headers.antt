@@ -8,7 +8,7 @@ use lib.ListN.{length, take, drop}
 use Rattle.frame.specs.Reading.{readFrame, payloadOf}
 use Rattle.header.specs.declared.Fields.{Fields}
 use Rattle.header.specs.Writing.{countOf, writeRefusal, roomWritten, headerFor, fieldsOf}
-use Rattle.sheetparts.specs.Encoding.{Bytes}
+use Rattle.laying.specs.Bytes.{Bytes}
 
 -- numbers of their types: bytes, a 16-bit length, 32-bit words
 pub record Typed (fields : Fields) : Type 0 where

@@ -75,7 +75,7 @@ module _ (P : ℕ → Type 0) where
         numbers-then (numbers-any 4) (λ packetCount.
         numbers-then (numbers-times (packet (servers h)) (numbers-packet (servers h)) packetCount) (λ v. at-end))))
 
-    numbers-sheet : Numbers P nightSheet
+    pub numbers-sheet : Numbers P nightSheet
     unfolding nightSheet
     numbers-sheet =
         numbers-then (numbers-field 4 (λ v. eqb v 3) bad-length of-length) (λ v.

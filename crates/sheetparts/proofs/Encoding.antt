@@ -1,116 +1,111 @@
--- An accepted sheet is the one encoding of its values: each field is the bytes of its value, and the fields stand one behind the other.
+-- An accepted sheet is the one encoding of its values: it is what is laid of the values that stand in it, section by section.
 use mathlib.Core.Path.{_≡_, refl, sym, _∙_, ap}
-use mathlib.Core.Bool.{Bool, true, false}
-use mathlib.Core.List.{List, [], _∷_, _++_, append-assoc, append-nil}
-use Prim.Native.Nat.{ℕ, zero, suc, _+_, _-_, _*_, _/_, _%_, _≤_, _<_}
+use mathlib.Core.List.{List, [], _++_, append-assoc, append-nil}
+use Prim.Native.Nat.{ℕ, zero, suc, _+_, _*_, _≤_, _<_}
 use native.Mathlib.Omega.{arith}
-use lib.Arith.{digits-div, digits-mod}
-use lib.Dec.{leb}
-use lib.ListN.{length, getD, take, drop, take-append-drop, length-drop, length-take, drop-of-length-le}
-use lib.Seq.{take-suc, getD-drop, drop-drop, length-take-le}
+use lib.ListN.{length, take, drop, length-drop}
+use lib.Seq.{drop-length, length-take-le}
 use borrow.Author.Tests.{le-leb}
+use Rattle.hall.specs.declared.Hall.{Hall}
+use Rattle.hall.specs.Halls.{servers}
 use Rattle.sheet.specs.declared.Sheet.{Sheet}
-use Rattle.sheet.specs.Formats.{value}
-use Rattle.sheet.specs.Answers.{countPlace, codesPlace, codeCountOf, hallOf, sheetOf, packetPlace}
+use Rattle.sheet.specs.Formats.{Format, done, and-then, value}
+use Rattle.sheet.specs.Sheets.{any, codes, packet, packets, times, tablesOf, nightSheet}
+use Rattle.sheet.specs.Answers.{countPlace, codesPlace, codeCountOf, hallOf, acceptedAs, sheetOf, packetPlace}
 use Rattle.sheet.specs.Accepted.{packetCountOf, Accepted}
-use Rattle.sheet.proofs.Places.{count-place, codes-place}
-use Rattle.sheet.proofs.Held.{accepted-holds, holds-accepted}
+use Rattle.sheet.proofs.Places.{count-place}
+use Rattle.sheet.proofs.Held.{accepted-read, accepted-holds, long, holds-accepted}
+use Rattle.laying.specs.Bytes.{Bytes, bytesOf}
+use Rattle.laying.specs.Filled.{laid, valuesIn}
+use Rattle.laying.proofs.Bytes.{drop-bytes}
+use Rattle.laying.proofs.Reading.{accepted-laid, values-then}
 use Rattle.sheetparts.specs.declared.SheetPacket.{SheetPacket}
-use Rattle.sheetparts.specs.Parts.{codesPart, codesOf, packetPart, packetFields, packetAt}
-use Rattle.sheetparts.specs.Encoding.{Bytes, bytesOf, packetBytes, packetsBytes, encodingOf}
+use Rattle.sheetparts.specs.Parts.{codesOf, packetPart, packetFields, packetAt}
+use Rattle.sheetparts.specs.Encoding.{packetBytes, packetsBytes, encodingOf}
 use Rattle.sheetparts.proofs.Parts.{codes-there, codes-answered, packet-answered}
 
+-- packets that agree have the same bytes
+packets-alike : (p q : ℕ → SheetPacket) (i so-many : ℕ) → ((j : ℕ) → j < i + so-many → p j ≡ q j) → packetsBytes p i so-many ≡ packetsBytes q i so-many
+unfolding packetsBytes
+packets-alike p q i zero e = refl
+packets-alike p q i (suc so-many) e = rw (e i (omega arith), packets-alike p q (suc i) so-many (λ j l. e j (omega arith)))
+
+-- what stands behind the codes
+abbrev behindCodes : ℕ → ℕ → Format
+behindCodes limit v = and-then (any 4) (λ packetCount. and-then (packets limit packetCount) (λ v. done packetCount))
+
+-- the values that stand in a sheet, laid: those of the packets, and of what is behind the codes
+module _ (s : List ℕ) (limit : ℕ) where
+  packets-values : (at i so-many : ℕ) → at + 10 * (i + so-many) ≤ length s
+      → laid (valuesIn (packets limit so-many) s (at + 10 * i)) ≡ packetsBytes (λ j. packetPart s (at + 10 * j)) i so-many
+  unfolding valuesIn laid times packet and-then packetsBytes packetPart
+  packets-values at i zero h = refl
+  packets-values at i (suc so-many) h =
+      let e8 : at + 10 * i + 8 ≡ at + 10 * i + 4 + 4 = omega arith in
+      let e9 : at + 10 * i + 9 ≡ at + 10 * i + 4 + 4 + 1 = omega arith in
+      let n : at + 10 * i + 4 + 4 + 1 + 1 ≡ at + 10 * suc i = omega arith in
+      rw (le-leb (at + 10 * i + 10) (length s) (omega arith), e8, e9, n, packets-values at (suc i) so-many (omega arith)) (simp append-assoc)
+
+  behind-values : (at v : ℕ) → at + 4 + 10 * value s at 4 ≤ length s
+      → laid (valuesIn (behindCodes limit v) s at) ≡ bytesOf 4 (value s at 4) ++ packetsBytes (λ j. packetPart s (at + 4 + 10 * j)) 0 (value s at 4)
+  unfolding laid valuesIn and-then
+  behind-values at v h =
+      let z : at + 4 ≡ at + 4 + 10 * 0 = omega arith in
+      let q : laid (valuesIn (packets limit (value s at 4)) s (at + 4)) ≡ packetsBytes (λ j. packetPart s (at + 4 + 10 * j)) 0 (value s at 4) =
+      ap (λ (m : ℕ). laid (valuesIn (packets limit (value s at 4)) s m)) z ∙ packets-values (at + 4) 0 (value s at 4) (omega arith) in
+      rw (values-then (packets limit (value s at 4)) (λ v. done (value s at 4)) s (at + 4), q, append-nil)
+
 module _ (s : List ℕ) (b : Bytes s) where
-  -- a field's bytes are those of its value
-  bytes-there : (width at : ℕ) → at + width ≤ length s → take width (drop at s) ≡ bytesOf width (value s at width)
-  unfolding bytesOf value
-  bytes-there zero at h = refl
-  bytes-there (suc width) at h =
-      let l = b .below (at + width) in
-      take-suc (drop at s) width 0 (omega (arith, length-drop at s))
-      ∙ rw (getD-drop at s width 0, digits-div (value s at width) l, digits-mod (value s at width) l, bytes-there width at (omega arith))
+  codes-values : (so-many at : ℕ) → at + so-many ≤ length s → laid (valuesIn (codes so-many) s at) ≡ take so-many (drop at s)
+  unfolding valuesIn laid times and-then bytesOf
+  codes-values zero at h = refl
+  codes-values (suc so-many) at h = rw (drop-bytes s b 1 at (omega arith), codes-values so-many (at + 1) (omega arith))
 
-  drop-bytes : (width at : ℕ) → at + width ≤ length s → drop at s ≡ bytesOf width (value s at width) ++ drop (at + width) s
-  drop-bytes width at h =
-      sym (take-append-drop width (drop at s)) ∙ rw (bytes-there width at h, drop-drop width at s)
+  tables-values : (h : Hall) (at : ℕ) → at + 4 + value s at 4 + 4 + 10 * value s (at + 4 + value s at 4) 4 ≤ length s
+      → laid (valuesIn (tablesOf h) s at)
+      ≡ bytesOf 4 (value s at 4) ++ (take (value s at 4) (drop (at + 4) s) ++ (bytesOf 4 (value s (at + 4 + value s at 4) 4)
+      ++ packetsBytes (λ j. packetPart s (at + 4 + value s at 4 + 4 + 10 * j)) 0 (value s (at + 4 + value s at 4) 4)))
+  unfolding laid valuesIn tablesOf and-then
+  tables-values h at l =
+      let so-many = value s at 4 in
+      let c = codes-values so-many (at + 4) (omega arith) in
+      let n : length (laid (valuesIn (codes so-many) s (at + 4))) ≡ so-many = ap length c ∙ length-take-le so-many (drop (at + 4) s) (omega (arith, length-drop (at + 4) s)) in
+      ap (λ (m : List ℕ). bytesOf 4 so-many ++ m)
+      (values-then (codes so-many) (behindCodes (servers h)) s (at + 4)
+      ∙ ap (λ (m : ℕ). laid (valuesIn (codes so-many) s (at + 4)) ++ laid (valuesIn (behindCodes (servers h) 0) s (at + 4 + m))) n
+      ∙ rw (c, behind-values s (servers h) (at + 4 + so-many) 0 l))
 
-  -- a packet's ten bytes
-  packet-bytes : (p : SheetPacket) (at : ℕ) → p .source ≡ value s at 4 → p .dst ≡ value s (at + 4) 4 → p .retry ≡ value s (at + 8) 1
-      → p .ttl ≡ value s (at + 9) 1 → at + 10 ≤ length s → drop at s ≡ packetBytes p ++ drop (at + 10) s
-  packet-bytes p at e0 e1 e2 e3 h =
-      let a : at + 4 + 4 ≡ at + 8 = omega arith in
-      let d : at + 8 + 1 ≡ at + 9 = omega arith in
-      let f : at + 9 + 1 ≡ at + 10 = omega arith in
-      let s0 : drop at s ≡ bytesOf 4 (p .source) ++ drop (at + 4) s = rw e0 (drop-bytes 4 at (omega arith)) in
-      let s1 : drop (at + 4) s ≡ bytesOf 4 (p .dst) ++ drop (at + 8) s = rw (e1, ← a) (drop-bytes 4 (at + 4) (omega arith)) in
-      let s2 : drop (at + 8) s ≡ bytesOf 1 (p .retry) ++ drop (at + 9) s = rw (e2, ← d) (drop-bytes 1 (at + 8) (omega arith)) in
-      let s3 : drop (at + 9) s ≡ bytesOf 1 (p .ttl) ++ drop (at + 10) s = rw (e3, ← f) (drop-bytes 1 (at + 9) (omega arith)) in
-      s0 ∙ rw (s1, s2, s3) (simp append-assoc)
+  sheet-values : laid (valuesIn nightSheet s 0)
+      ≡ bytesOf 4 (value s 0 4) ++ (bytesOf 1 (value s 4 1) ++ (bytesOf 1 (value s 5 1) ++ (bytesOf 1 (value s 6 1) ++ laid (valuesIn (tablesOf (hallOf s)) s 7))))
+  unfolding laid valuesIn nightSheet and-then
+  sheet-values = refl
 
-  -- so many packets, one behind the other
-  packets-bytes : (packet : ℕ → SheetPacket) (at so-many : ℕ)
-      → ((i : ℕ) → i < so-many → drop (at + 10 * i) s ≡ packetBytes (packet i) ++ drop (at + 10 * i + 10) s)
-      → drop at s ≡ packetsBytes packet so-many ++ drop (at + 10 * so-many) s
-  unfolding packetsBytes
-  packets-bytes packet at zero each = let z : at + 10 * 0 ≡ at = omega arith in rw z
-  packets-bytes packet at (suc i) each =
-      let n : at + 10 * suc i ≡ at + 10 * i + 10 = omega arith in
-      packets-bytes packet at i (λ j l. each j (omega arith))
-      ∙ rw (n, each i (omega arith)) (sym (append-assoc (packetsBytes packet i) (packetBytes (packet i)) (drop (at + 10 * i + 10) s)))
-
-  -- the sections one behind the other
-  encoded : (sheet : Sheet) (codes : List ℕ) (packet : ℕ → SheetPacket) → Accepted s
-      → sheet .hall .n ≡ value s 4 1 → sheet .hall .k ≡ value s 5 1 → sheet .hall .b ≡ value s 6 1 → sheet .packets ≡ packetCountOf s
-      → codes ≡ take (codeCountOf s) (drop (codesPlace s) s)
-      → ((i : ℕ) → i < packetCountOf s → packet i ≡ packetFields s i)
-      → s ≡ encodingOf sheet codes packet
-  unfolding encodingOf codesPlace packetPlace packetCountOf packetPart
-  encoded sheet codes packet a en ek eb ep ec each =
-      let p = codes-place s (a .first) in
-      let l : length s ≡ codesPlace s + codeCountOf s + 4 + 10 * value s (codesPlace s + codeCountOf s) 4 = a .whole in
-      let m : codesPlace s + codeCountOf s ≤ length s = omega arith in
-      let cl : length codes ≡ codeCountOf s = ap length ec ∙ length-take-le (codeCountOf s) (drop (codesPlace s) s) (omega (arith, length-drop (codesPlace s) s)) in
-      let s7 : drop (codesPlace s + codeCountOf s + 4) s ≡ packetsBytes packet (sheet .packets) =
-      packets-bytes packet (codesPlace s + codeCountOf s + 4) (value s (codesPlace s + codeCountOf s) 4) (λ i h.
-      let t : codesPlace s + codeCountOf s + 4 + 10 * i + 10 ≤ length s = omega arith in
-      let p : packet i ≡ packetFields s i = each i h in
-      let f = le-leb (codesPlace s + codeCountOf s + 4 + 10 * i + 10) (length s) t in
-      packet-bytes (packet i) (codesPlace s + codeCountOf s + 4 + 10 * i) (rw (p, f)) (rw (p, f)) (rw (p, f)) (rw (p, f)) t)
-      ∙ rw (drop-of-length-le s {i = codesPlace s + codeCountOf s + 4 + 10 * value s (codesPlace s + codeCountOf s) 4} (omega arith), ep)
-      (append-nil (packetsBytes packet (value s (codesPlace s + codeCountOf s) 4))) in
-      let s6 : drop (codesPlace s + codeCountOf s) s ≡ bytesOf 4 (sheet .packets) ++ packetsBytes packet (sheet .packets) =
-      drop-bytes 4 (codesPlace s + codeCountOf s) (omega arith) ∙ rw (s7, ep) in
-      let s5 : drop (codesPlace s) s ≡ codes ++ (bytesOf 4 (sheet .packets) ++ packetsBytes packet (sheet .packets)) =
-      sym (take-append-drop (codeCountOf s) (drop (codesPlace s) s)) ∙ rw (drop-drop (codeCountOf s) (codesPlace s) s, s6, ec) in
-      let s4 : drop (countPlace s) s ≡ bytesOf 4 (length codes) ++ (codes ++ (bytesOf 4 (sheet .packets) ++ packetsBytes packet (sheet .packets))) =
-      drop-bytes 4 (countPlace s) (omega arith) ∙ rw (s5, cl) in
-      let s3 : drop 6 s ≡ bytesOf 1 (sheet .hall .b) ++ drop (countPlace s) s = rw (eb, count-place s (a .first)) (drop-bytes 1 6 (omega arith)) in
-      let s2 : drop 5 s ≡ bytesOf 1 (sheet .hall .k) ++ drop 6 s = rw ek (drop-bytes 1 5 (omega arith)) in
-      let s1 : drop 4 s ≡ bytesOf 1 (sheet .hall .n) ++ drop 5 s = rw en (drop-bytes 1 4 (omega arith)) in
-      let s0 : s ≡ bytesOf 4 3 ++ drop 4 s = rw (← a .first) (drop-bytes 4 0 (omega arith)) in
-      s0 ∙ ap (λ (x : List ℕ). bytesOf 4 3 ++ x) (s1 ∙ ap (λ (x : List ℕ). bytesOf 1 (sheet .hall .n) ++ x)
-      (s2 ∙ ap (λ (x : List ℕ). bytesOf 1 (sheet .hall .k) ++ x) (s3 ∙ ap (λ (x : List ℕ). bytesOf 1 (sheet .hall .b) ++ x) s4)))
-      ∙ simp append-assoc
-
-  codes-fit : Accepted s → codesPlace s + codeCountOf s ≤ length s
-  unfolding packetPlace
-  codes-fit a = omega (arith, a .whole)
+  -- so it is the sections one behind the other
+  encoded : (codes : List ℕ) (packet : ℕ → SheetPacket) → sheetOf s .refusal ≡ 0
+      → codes ≡ take (codeCountOf s) (drop (codesPlace s) s) → ((i : ℕ) → i < packetCountOf s → packet i ≡ packetFields s i)
+      → s ≡ encodingOf (acceptedAs (hallOf s) (packetCountOf s)) codes packet
+  unfolding encodingOf codesPlace packetPlace packetCountOf
+  encoded codes packet ok ec each =
+      let a = accepted-holds s ok in
+      let r = accepted-read s ok in
+      let l = long s a in
+      let w = accepted-laid nightSheet s b 0 (r .1 .0) (length s) (r .1 .1) .3 in
+      let c : length (take (codeCountOf s) (drop (codesPlace s) s)) ≡ codeCountOf s =
+      length-take-le (codeCountOf s) (drop (codesPlace s) s) (omega (arith, length-drop (codesPlace s) s)) in
+      let t = tables-values (hallOf s) (countPlace s) (omega arith) in
+      let p = packets-alike packet (packetFields s) 0 (packetCountOf s) (λ i h. each i (omega arith)) in
+      w ∙ rw (drop-length s, append-nil (laid (valuesIn nightSheet s 0)))
+      (sheet-values ∙ rw (a .first, ← count-place s (a .first), t, ec, c, p) (simp append-assoc))
 
   -- an accepted sheet is the encoding of what the calls answer of it
   pub accepted-encoding : sheetOf s .refusal ≡ 0 → s ≡ encodingOf (sheetOf s) (codesOf s) (packetAt s)
   accepted-encoding ok =
       let a = accepted-holds s ok in
       let e = holds-accepted s a in
-      let l : codesPlace s + codeCountOf s ≤ length s = codes-fit a in
-      encoded (sheetOf s) (codesOf s) (packetAt s) a (ap (λ x. x .hall .n) e) (ap (λ x. x .hall .k) e) (ap (λ x. x .hall .b) e) (ap (λ x. x .packets) e)
-      (sym (codes-there s l ∙ codes-answered s (sheetOf s) refl ok))
+      encoded (codesOf s) (packetAt s) ok
+      (sym (codes-there s (omega (arith, long s a)) ∙ codes-answered s (sheetOf s) refl ok))
       (λ i h. sym (packet-answered s (sheetOf s) refl i ok (omega (arith, ap (λ x. x .packets) e))))
-
--- packets that agree have the same bytes
-packets-alike : (p q : ℕ → SheetPacket) (so-many : ℕ) → ((i : ℕ) → i < so-many → p i ≡ q i) → packetsBytes p so-many ≡ packetsBytes q so-many
-unfolding packetsBytes
-packets-alike p q zero e = refl
-packets-alike p q (suc i) e = rw (packets-alike p q i (λ j l. e j (omega arith)), e i (omega arith))
+      ∙ ap (λ (x : Sheet). encodingOf x (codesOf s) (packetAt s)) (sym e)
 
 -- two accepted sheets with equal values are equal bytes
 pub one-encoding : (s t : List ℕ) → Bytes s → Bytes t → sheetOf s .refusal ≡ 0
@@ -124,4 +119,4 @@ one-encoding s t bs bt ok e c p =
   where
     same : (a b : Sheet) (x y : List ℕ) (f g : ℕ → SheetPacket) → a ≡ b → x ≡ y → ((i : ℕ) → i < a .packets → f i ≡ g i)
         → encodingOf a x f ≡ encodingOf b y g
-    same a b x y f g ab xy fg = rw (← ab, ← xy, packets-alike f g (a .packets) fg)
+    same a b x y f g ab xy fg = rw (← ab, ← xy, packets-alike f g 0 (a .packets) (λ i h. fg i (omega arith)))

@@ -1,0 +1,3 @@
+-- The laws.
+pub mod Bytes
+pub mod Reading
