@@ -1,5 +1,4 @@
 -- The laws.
-pub mod Orders
 pub mod Sums
 pub mod Rows
 pub mod Words

@@ -6,8 +6,10 @@ use native.Mathlib.Numerals.{add-one}
 use native.Mathlib.Omega.{arith}
 use lib.Dec.{eqb, ltb}
 use borrow.Author.Tests.{eq-eqb, ne-eqb, eqb-true, eqb-false, lt-ltb, le-ltb, ltb-true, ltb-false}
+use Rattle.combine.specs.Tests.{pick}
 use Rattle.combine.proofs.Tests.{cases}
-use Rattle.frame.specs.Layout.{bits, has, before, offsetIn, offset}
+use Rattle.rows.specs.Rows.{bits, has, before, offsetIn}
+use Rattle.frame.specs.Layout.{offset}
 use Rattle.frame.specs.Checksum.{plusOnes, sumOnes, without, checksumOf, halves, checksumPlace, headerChecksum, total, folded}
 
 pub total-none : (run : ℕ → ℕ) → total run 0 ≡ 0
@@ -172,17 +174,47 @@ checksum-words words n fit h =
     omega (arith, l, total-words words n) in
     rw (f, e, folded-words (total (upper words) n) (total (without 2 (lower words)) n), g)
 
--- the checksum does not go by what stands in its field
-pub checksum-field : (words other : ℕ → ℕ) (n sum : ℕ) → ((i : ℕ) → words i < 4294967296) → ((i : ℕ) → other i < 4294967296) → 3 ≤ n
-    → ((i : ℕ) → i < n → (i ≡ 2 → ⊥) → words i ≡ other i)
-    → words 2 ≡ other 2 + sum → other 2 % 65536 ≡ 0 → sum ≤ 65535 → headerChecksum words n ≡ headerChecksum other n
-checksum-field words other n sum fit fit′ h same third clear small =
-    let c : total (without 2 words) n ≡ total (without 2 other) n =
-    total-cong (without 2 words) (without 2 other) n
-    (λ i l.
-    cases (eqb i 2)
-    (λ q. let e : i ≡ 2 = eqb-true i 2 q in rw e (without-here 2 words ∙ sym (without-here 2 other)))
-    (λ q. let d = eqb-false i 2 q in without-there 2 words i d ∙ same i l d ∙ sym (without-there 2 other i d))) in
-    let e : total words n - words 2 % 65536 ≡ total other n - other 2 % 65536 =
-    omega (arith, c, total-without 2 words n (omega arith), total-without 2 other n (omega arith)) in
-    checksum-words words n fit h ∙ ap (λ (s : ℕ). 65535 - folded s) e ∙ sym (checksum-words other n fit′ h)
+-- one word more that fits
+pub fit-more : (words : ℕ → ℕ) (i : ℕ) → ((j : ℕ) → j < i → words j < 4294967296) → words i < 4294967296 → (j : ℕ) → j < i + 1 → words j < 4294967296
+fit-more words i f h j l =
+    cases (eqb j i) (λ q. let e : j ≡ i = eqb-true j i q in rw e h) (λ q. let d = eqb-false j i q in f j (omega arith))
+
+-- words of 32 bits, those that count, whose checksum field is zero have the checksum of their plain sum
+pub plain-sum : (words : ℕ → ℕ) (n : ℕ) → ((i : ℕ) → i < n → words i < 4294967296) → 3 ≤ n → words 2 % 65536 ≡ 0
+    → 65535 - folded (total words n) ≡ headerChecksum words n
+plain-sum words n fit h z =
+    let e : total counted n ≡ total words n = total-cong counted words n there in
+    let t : words 2 ≡ counted 2 = sym (there 2 (omega arith)) in
+    let m : total words n ≡ total counted n - counted 2 % 65536 = omega arith in
+    ap (λ (s : ℕ). 65535 - folded s) m ∙ sym (checksum-words counted n fits h) ∙ checksum-cong counted words n there
+  where
+    counted : ℕ → ℕ
+    counted i = pick (ltb i n) (words i) 0
+
+    there : (i : ℕ) → i < n → counted i ≡ words i
+    there i l = rw (lt-ltb i n l)
+
+    fits : (i : ℕ) → counted i < 4294967296
+    fits i = cases (ltb i n) (λ q. rw q (fit i (ltb-true i n q))) (λ q. rw q (omega arith))
+
+-- the checksum does not go by what stands in its field: words that differ in the lower half of the third alone have one checksum
+module _ (words other : ℕ → ℕ) (n : ℕ) (same : (i : ℕ) → i < n → (i ≡ 2 → ⊥) → words i ≡ other i) (upper : words 2 / 65536 ≡ other 2 / 65536) where
+  other-half : (j : ℕ) → j < 2 * n → (j ≡ 5 → ⊥) → halves words j ≡ halves other j
+  unfolding halves
+  other-half j h d =
+      cases (eqb (j / 2) 2)
+      (λ q.
+      let e : j / 2 ≡ 2 = eqb-true (j / 2) 2 q in
+      let z : j ≡ 4 = omega arith in
+      rw z upper)
+      (λ q. rw (same (j / 2) (omega arith) (eqb-false (j / 2) 2 q)))
+
+  pub checksum-upper : headerChecksum words n ≡ headerChecksum other n
+  unfolding headerChecksum checksumOf checksumPlace offset offsetIn before has bits
+  checksum-upper =
+      ap (λ (s : ℕ). 65535 - s)
+      (sum-cong (without 5 (halves words)) (without 5 (halves other)) (2 * n)
+      (λ j h.
+      cases (eqb j 5)
+      (λ q. let e : j ≡ 5 = eqb-true j 5 q in rw e (without-here 5 (halves words) ∙ sym (without-here 5 (halves other))))
+      (λ q. let d = eqb-false j 5 q in without-there 5 (halves words) j d ∙ other-half j h d ∙ sym (without-there 5 (halves other) j d))))

@@ -1,13 +1,16 @@
 -- Laws of words as big-endian bytes: four bytes make a word and a word four bytes, so a header's words and its bytes are one thing.
 use mathlib.Core.Path.{_≡_, refl, _∙_, ap, sym}
-use mathlib.Core.List.{List, _++_}
+use mathlib.Core.List.{List, [], _∷_, _++_, append-assoc}
 use Prim.Native.Nat.{ℕ, zero, suc, _+_, _*_, _/_, _%_, _≤_, _<_}
-use native.Mathlib.Nat.{mod-eq-of-lt}
+use native.Mathlib.Nat.{add-zero, mod-eq-of-lt}
 use native.Mathlib.Numerals.{add-one}
 use native.Mathlib.Omega.{arith}
 use lib.Arith.{mod-mul}
-use lib.ListN.{length, getD, drop, length-append, length-drop}
-use lib.Seq.{sets, sets-eq, take-at, drop-append-add, drop-drop}
+use lib.Dec.{eqb}
+use lib.ListN.{length, getD, take, drop, length-append, length-drop, List·getD-append}
+use lib.Seq.{sets, sets-eq, getD-append-add, take-at, take-add, drop-cons, drop-append-add, drop-drop}
+use borrow.Author.Tests.{eqb-true, eqb-false}
+use Rattle.combine.proofs.Tests.{cases}
 use Rattle.frame.specs.Layout.{wordAt, bigEndian, bytesOf}
 
 -- a word is what its four bytes make
@@ -69,3 +72,83 @@ bytes-more words room i h =
     ∙ (drop-append-add (bytesOf words i) (drop (4 * i) room) 4 ∙ (drop-drop 4 (4 * i) room ∙ ap (λ (n : ℕ). drop n room) n)) in
     sets-eq (bigEndian (words i)) (p ++ drop (4 * i) room) (4 * i) (omega (arith, length-append p (drop (4 * i) room), length-drop (4 * i) room))
     ∙ rw (take-at p (drop (4 * i) room) (4 * i) l, e, add-one i)
+
+-- what stands k behind a first list of length n
+behind : (front back : List ℕ) (n k : ℕ) → length front ≡ n → getD (front ++ back) (n + k) 0 ≡ getD back k 0
+behind front back n k e = rw (← e) (getD-append-add front back k 0)
+
+-- the word behind n words
+word-behind : (words : ℕ → ℕ) (n word : ℕ) (rest : List ℕ) → word < 4294967296 → wordAt (bytesOf words n ++ (bigEndian word ++ rest)) n ≡ word
+unfolding wordAt
+word-behind words n word rest fit =
+    let b : List ℕ = bigEndian word ++ rest in
+    let l : length (bytesOf words n) ≡ 4 * n = bytes-length words n in
+    let z : getD (bytesOf words n ++ b) (4 * n) 0 ≡ word / 16777216 % 256 =
+    ap (λ (k : ℕ). getD (bytesOf words n ++ b) k 0) (sym (add-zero (4 * n))) ∙ behind (bytesOf words n) b (4 * n) 0 l in
+    rw (z, behind (bytesOf words n) b (4 * n) 1 l, behind (bytesOf words n) b (4 * n) 2 l, behind (bytesOf words n) b (4 * n) 3 l)
+    (word-split word fit)
+
+-- word i read off the bytes of n words is word i
+pub word-written : (words : ℕ → ℕ) (n i : ℕ) (rest : List ℕ) → i < n → words i < 4294967296 → wordAt (bytesOf words n ++ rest) i ≡ words i
+unfolding bytesOf
+word-written words zero i rest h fit = absurd (omega arith)
+word-written words (suc n) i rest h fit =
+    cases (eqb i n)
+    (λ q.
+    let e : n ≡ i = sym (eqb-true i n q) in
+    let f : words n < 4294967296 = rw e fit in
+    ap (wordAt (bytesOf words (suc n) ++ rest)) (sym e)
+    ∙ rw (append-assoc (bytesOf words n) (bigEndian (words n)) rest) (word-behind words n (words n) rest f)
+    ∙ ap words e)
+    (λ q.
+    let d = eqb-false i n q in
+    rw (append-assoc (bytesOf words n) (bigEndian (words n)) rest) (word-written words n i (bigEndian (words n) ++ rest) (omega arith) fit))
+
+-- four bytes are those of the word that they make
+four-bytes : (a b c d : ℕ) → a < 256 → b < 256 → c < 256 → d < 256
+    → bigEndian (a * 16777216 + b * 65536 + c * 256 + d) ≡ a ∷ b ∷ c ∷ d ∷ []
+four-bytes a b c d p q r s =
+    let w = a * 16777216 + b * 65536 + c * 256 + d in
+    let e₁ : w / 16777216 % 256 ≡ a = omega arith in
+    let e₂ : w / 65536 % 256 ≡ b = omega arith in
+    let e₃ : w / 256 % 256 ≡ c = omega arith in
+    let e₄ : w % 256 ≡ d = omega arith in
+    rw (e₁, e₂, e₃, e₄)
+
+-- the four bytes at a place
+take-four : (l : List ℕ) (k : ℕ) → k + 4 ≤ length l → take 4 (drop k l) ≡ getD l k 0 ∷ getD l (k + 1) 0 ∷ getD l (k + 2) 0 ∷ getD l (k + 3) 0 ∷ []
+take-four l k h =
+    let e₁ : k + 1 ≡ suc k = omega arith in
+    let e₂ : k + 2 ≡ suc (suc k) = omega arith in
+    let e₃ : k + 3 ≡ suc (suc (suc k)) = omega arith in
+    rw (
+      e₁,
+      e₂,
+      e₃,
+      drop-cons l k 0 (omega arith),
+      drop-cons l (suc k) 0 (omega arith),
+      drop-cons l (suc (suc k)) 0 (omega arith),
+      drop-cons l (suc (suc (suc k))) 0 (omega arith),
+    )
+
+-- the bytes of a frame's words are the frame's
+pub bytes-read : (frame : List ℕ) → Bytes frame → (n : ℕ) → 4 * n ≤ length frame → bytesOf (wordAt frame) n ≡ take (4 * n) frame
+unfolding bytesOf wordAt
+bytes-read frame fit zero h = refl
+bytes-read frame fit (suc n) h =
+    let e : 4 * suc n ≡ 4 * n + 4 = omega arith in
+    let w : bigEndian (wordAt frame n) ≡ take 4 (drop (4 * n) frame) =
+    four-bytes (getD frame (4 * n) 0) (getD frame (4 * n + 1) 0) (getD frame (4 * n + 2) 0) (getD frame (4 * n + 3) 0) (fit (4 * n)) (fit (4 * n + 1)) (fit (4 * n + 2)) (fit (4 * n + 3))
+    ∙ sym (take-four frame (4 * n) (omega arith)) in
+    rw (e, take-add (4 * n) 4 frame, bytes-read frame fit n (omega arith), w)
+
+-- the words that a frame has are not changed by what comes behind
+pub word-before : (frame padding : List ℕ) (i : ℕ) → 4 * i + 4 ≤ length frame → wordAt frame i ≡ wordAt (frame ++ padding) i
+unfolding wordAt
+word-before frame padding i h =
+    rw (
+      List·getD-append frame padding 0 (4 * i) (omega arith),
+      List·getD-append frame padding 0 (4 * i + 1) (omega arith),
+      List·getD-append frame padding 0 (4 * i + 2) (omega arith),
+      List·getD-append frame padding 0 (4 * i + 3) (omega arith),
+    )

@@ -1,27 +1,16 @@
 -- The order in which a frame that is read is refused.
 -- Section "Refusal numbers".
-use Prim.Native.Nat.{ℕ, _+_, _*_, _%_}
+use Prim.Native.Nat.{ℕ, _+_, _*_}
 use mathlib.Core.Bool.{Bool, true, false}
+use mathlib.Core.Path.{_≡_}
 use mathlib.Core.List.{List, [], _∷_, _++_}
 use lib.Dec.{eqb, leb}
 use lib.ListN.{length}
-use Rattle.combine.specs.Tests.{pick, either}
+use Rattle.combine.specs.Tests.{either}
 use Rattle.hall.specs.Refusals.{Ask, inOrder, short-frame, bad-header, bad-checksum, bad-address}
-use Rattle.frame.specs.Layout.{version, DHL, payloadLength, flags, checksum, source, destination, proxy, theVersion, wordsWith, valueIn, wordAt}
+use Rattle.frame.specs.Layout.{version, DHL, payloadLength, flags, checksum, source, destination, proxy, front, theVersion, wordsWith, isPF, valueIn, wordAt}
 use Rattle.frame.specs.Checksum.{headerChecksum}
 use Rattle.frame.specs.Addresses.{addressesFit}
-
--- PF is the flag of value 1
-abbrev pub isPF : ℕ → Bool
-isPF flagBits = eqb (flagBits % 2) 1
-
--- there is a proxy exactly when DHL says so
-abbrev pub hasProxy : (ℕ → ℕ) → Bool
-hasProxy words = eqb (valueIn words DHL) (wordsWith true)
-
--- the proxy, 0 where there is none
-abbrev pub proxyIn : (ℕ → ℕ) → ℕ
-proxyIn words = pick (hasProxy words) (valueIn words proxy) 0
 
 -- version, DHL, flags, and PF set exactly when DHL counts a proxy
 unfoldable pub asksHeader : ℕ → ℕ → ℕ → List Ask
@@ -32,21 +21,39 @@ asksHeader versionNumber words flagBits =
     ∷ (bad-header, eqb words (wordsWith (isPF flagBits)))
     ∷ []
 
--- what is asked once the header is all there
-unfoldable pub asksWhole : List ℕ → (ℕ → ℕ) → List Ask
-asksWhole frame words =
-    (short-frame, leb (4 * valueIn words DHL) (length frame))
-    ∷ (bad-checksum, eqb (valueIn words checksum) (headerChecksum words (valueIn words DHL)))
-    ∷ (bad-address, addressesFit (valueIn words source) (valueIn words destination) (hasProxy words) (proxyIn words))
-    ∷ (short-frame, leb (4 * valueIn words DHL + valueIn words payloadLength) (length frame))
+-- the rule of the addresses, by a header's values
+abbrev pub addressesSound : (ℕ → ℕ) → Bool
+addressesSound values = addressesFit (values source) (values destination) (isPF (values flags)) (values proxy)
+
+-- what is asked once the header is all there, of a frame of a size whose checksum works out to sum
+unfoldable pub asksWhole : ℕ → (ℕ → ℕ) → ℕ → List Ask
+asksWhole size values sum =
+    (short-frame, leb (4 * values DHL) size)
+    ∷ (bad-checksum, eqb (values checksum) sum)
+    ∷ (bad-address, addressesSound values)
+    ∷ (short-frame, leb (4 * values DHL + values payloadLength) size)
     ∷ []
 
-unfoldable pub asksFrame : List ℕ → (ℕ → ℕ) → List Ask
-asksFrame frame words =
-    (short-frame, leb (4 * wordsWith false) (length frame))
-    ∷ asksHeader (valueIn words version) (valueIn words DHL) (valueIn words flags)
-    ++ asksWhole frame words
+unfoldable pub asksFrame : ℕ → (ℕ → ℕ) → ℕ → List Ask
+asksFrame size values sum =
+    (short-frame, leb (4 * length front) size)
+    ∷ asksHeader (values version) (values DHL) (values flags)
+    ++ asksWhole size values sum
+
+-- the checksum of a frame, worked out over the words that DHL says
+abbrev pub sumIn : List ℕ → ℕ
+sumIn frame = headerChecksum (wordAt frame) (valueIn (wordAt frame) DHL)
+
+-- what is asked of a frame once its header is all there
+abbrev pub wholeAsks : List ℕ → List Ask
+wholeAsks frame = asksWhole (length frame) (valueIn (wordAt frame)) (sumIn frame)
+
+-- what DHL and flags say where they are sound: the header's words, and whether it has a proxy
+pub record Told (words : ℕ → ℕ) (count : ℕ) (proxied : Bool) : Type 0 where
+  pub counted : count ≡ valueIn words DHL
+  pub flagged : proxied ≡ isPF (valueIn words flags)
+  pub agrees : count ≡ wordsWith proxied
 
 -- a frame's refusal
 unfoldable pub frameRefusal : List ℕ → ℕ
-frameRefusal frame = inOrder (asksFrame frame (wordAt frame))
+frameRefusal frame = inOrder (asksFrame (length frame) (valueIn (wordAt frame)) (sumIn frame))

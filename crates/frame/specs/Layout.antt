@@ -1,11 +1,12 @@
 -- The header's layout: rows of 32 bits cut into fields, the one description that reading and writing both go by.
 -- Section "Frame header", and figure 10 of the paper.
-use Prim.Native.Nat.{ℕ, zero, suc, _+_, _*_, _/_, _%_, _^_}
-use mathlib.Core.Bool.{Bool, false}
+use Prim.Native.Nat.{ℕ, zero, suc, _+_, _*_, _/_, _%_}
+use mathlib.Core.Bool.{Bool, true}
 use mathlib.Core.List.{List, [], _∷_, _++_}
 use lib.Dec.{eqb}
-use lib.ListN.{getD}
-use Rattle.combine.specs.Tests.{pick, either}
+use lib.ListN.{length, getD}
+use Rattle.combine.specs.Tests.{pick}
+use Rattle.rows.specs.Rows.{Row, valueBy, offsetIn}
 
 -- the fields by name, numbered in the layout's order
 abbrev pub version : ℕ
@@ -44,74 +45,47 @@ destination = 10
 abbrev pub proxy : ℕ
 proxy = 11
 
--- a row's part: a field, and its bits
-abbrev pub Part : Type 0
-Part = ℕ × ℕ
-
--- the rows, each field with its bits, the most significant first; a header of DHL words has the first DHL rows
-abbrev pub layout : List (List Part)
-layout =
+-- the rows that every header has, each field with its bits, the most significant first
+abbrev pub front : List Row
+front =
     ((version, 4) ∷ (DHL, 4) ∷ (protocol, 8) ∷ (payloadLength, 16) ∷ [])
     ∷ ((identification, 32) ∷ [])
     ∷ ((retry, 4) ∷ (flags, 4) ∷ (TTL, 8) ∷ (checksum, 16) ∷ [])
     ∷ ((source, 32) ∷ [])
     ∷ ((destination, 32) ∷ [])
-    ∷ ((proxy, 32) ∷ [])
     ∷ []
+
+-- the rows behind them: that of the proxy, where there is one
+unfoldable pub moreOf : Bool → List Row
+moreOf proxied = pick proxied (((proxy, 32) ∷ []) ∷ []) []
+
+-- the rows of a header, with or without a proxy
+abbrev pub rowsOf : Bool → List Row
+rowsOf proxied = front ++ moreOf proxied
+
+-- DHL is their number
+abbrev pub wordsWith : Bool → ℕ
+wordsWith proxied = length (rowsOf proxied)
 
 -- the version that there is
 abbrev pub theVersion : ℕ
 theVersion = 1
 
--- the header's words, by whether it has a proxy
-abbrev pub wordsWith : Bool → ℕ
-wordsWith hasProxy = pick hasProxy 6 5
+-- PF is the flag of value 1
+abbrev pub isPF : ℕ → Bool
+isPF flagBits = eqb (flagBits % 2) 1
 
--- the bits of a row
-unfoldable pub bits : List Part → ℕ
-bits [] = 0
-bits (p ∷ row) = p .1 + bits row
+-- a header is given by its words, `words i` being word i; PF says by which rows they are laid
+unfoldable pub rowsIn : (ℕ → ℕ) → List Row
+rowsIn words = rowsOf (isPF (valueBy front words flags))
 
--- writing: the word that a row makes of the fields' values
-unfoldable pub joined : List Part → (ℕ → ℕ) → ℕ
-joined [] values = 0
-joined (p ∷ row) values = values (p .0) * 2 ^ bits row + joined row values
-
--- reading: the value of a field in a row's word
-unfoldable pub cut : ℕ → List Part → ℕ → ℕ
-cut field [] word = 0
-cut field (p ∷ row) word = pick (eqb (p .0) field) (word / 2 ^ bits row % 2 ^ (p .1)) (cut field row word)
-
--- a row has the field
-unfoldable pub has : ℕ → List Part → Bool
-has field [] = false
-has field (p ∷ row) = either (eqb (p .0) field) (has field row)
-
--- a header is given by its words, `words i` being word i; the value of a field in rows that begin at word i
-unfoldable pub inRows : ℕ → List (List Part) → (ℕ → ℕ) → ℕ → ℕ
-inRows field [] words i = 0
-inRows field (row ∷ rows) words i = pick (has field row) (cut field row (words i)) (inRows field rows words (suc i))
-
--- the value of a field in a header
+-- the value of a field in a header, 0 where its rows don't have it
 unfoldable pub valueIn : (ℕ → ℕ) → ℕ → ℕ
-valueIn words field = inRows field layout words 0
-
--- the header that the fields' values make
-unfoldable pub wordsOf : (ℕ → ℕ) → ℕ → ℕ
-wordsOf values i = joined (getD layout i []) values
-
--- the bits before a field in its row
-unfoldable pub before : ℕ → List Part → ℕ
-before field [] = 0
-before field (p ∷ row) = pick (eqb (p .0) field) 0 (p .1 + before field row)
+valueIn words = valueBy (rowsIn words) words
 
 -- the bits before a field in the header
-unfoldable pub offsetIn : ℕ → List (List Part) → ℕ
-offsetIn field [] = 0
-offsetIn field (row ∷ rows) = pick (has field row) (before field row) (bits row + offsetIn field rows)
-
 unfoldable pub offset : ℕ → ℕ
-offset field = offsetIn field layout
+offset field = offsetIn field (rowsOf true)
 
 -- word i of a run of bytes, big-endian
 unfoldable pub wordAt : List ℕ → ℕ → ℕ

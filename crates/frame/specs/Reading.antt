@@ -8,24 +8,24 @@ use lib.ListN.{take, drop}
 use Rattle.combine.specs.Tests.{pick}
 use Rattle.hall.specs.Refusals.{answered}
 use Rattle.frame.specs.declared.Header.{Header}
-use Rattle.frame.specs.Layout.{DHL, protocol, payloadLength, identification, retry, TTL, source, destination, valueIn, wordAt}
-use Rattle.frame.specs.Asks.{hasProxy, proxyIn, frameRefusal}
+use Rattle.frame.specs.Layout.{DHL, protocol, payloadLength, identification, retry, flags, TTL, source, destination, proxy, isPF, valueIn, wordAt}
+use Rattle.frame.specs.Asks.{frameRefusal}
 
--- the fields of a header; zero for a proxy that is not there
+-- the header that values say
 abbrev pub headerOf : (ℕ → ℕ) → Header
-headerOf words =
+headerOf values =
     record {
       refusal = 0;
-      protocol = valueIn words protocol;
-      «payload_length» = valueIn words payloadLength;
-      identification = valueIn words identification;
-      retry = valueIn words retry;
-      ttl = valueIn words TTL;
-      source = valueIn words source;
-      destination = valueIn words destination;
-      «has_proxy» = hasProxy words;
-      proxy = proxyIn words;
-      «header_length» = 4 * valueIn words DHL;
+      protocol = values protocol;
+      «payload_length» = values payloadLength;
+      identification = values identification;
+      retry = values retry;
+      ttl = values TTL;
+      source = values source;
+      destination = values destination;
+      «has_proxy» = isPF (values flags);
+      proxy = values proxy;
+      «header_length» = 4 * values DHL;
     }
 
 abbrev pub refusedHeader : ℕ → Header
@@ -46,7 +46,7 @@ refusedHeader number =
 
 -- a frame read
 abbrev pub readFrame : List ℕ → Header
-readFrame frame = answered (frameRefusal frame) (headerOf (wordAt frame)) refusedHeader
+readFrame frame = answered (frameRefusal frame) (headerOf (valueIn (wordAt frame))) refusedHeader
 
 -- the part behind the header, payload length bytes long; later bytes are padding
 abbrev pub payloadOf : List ℕ → List ℕ

@@ -21,6 +21,8 @@ pub const PROTOCOL_AT: u32 = 65536;
 pub const RETRY_AT: u32 = 268435456;
 // Where the flags stand in the third word.
 pub const FLAGS_AT: u32 = 16777216;
+// The flag that says that there is a proxy.
+pub const PF: u32 = 1;
 // Where TTL stands in the third word; the checksum is behind it.
 pub const TTL_AT: u32 = 65536;
 

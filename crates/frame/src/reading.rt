@@ -1,12 +1,10 @@
 // Which frames are accepted, and what an accepted one says.
 ghost use mathlib.Core.Path.{_≡_};
 ghost use Prim.Native.Nat.{_*_, _≤_};
-ghost use lib.Dec.{eqb};
 ghost use lib.ListN.{length};
-ghost use Rattle.combine.specs.Tests.{pick};
+ghost use Rattle.frame.specs.Layout.{proxy, valueIn, wordAt};
 ghost use Rattle.hall.specs.Refusals.{inOrder};
-ghost use Rattle.frame.specs.Layout.{DHL, valueIn, wordAt};
-ghost use Rattle.frame.specs.Asks.{asksHeader, asksWhole, frameRefusal};
+ghost use Rattle.frame.specs.Asks.{Told, asksHeader, wholeAsks, frameRefusal};
 ghost use Rattle.frame.specs.Reading.{headerOf, refusedHeader};
 use crate::Header;
 use crate::addresses::addresses_fit;
@@ -16,6 +14,7 @@ use crate::layout::BITS_8;
 use crate::layout::BITS_16;
 use crate::layout::DHL_AT;
 use crate::layout::FLAGS_AT;
+use crate::layout::PF;
 use crate::layout::PROTOCOL_AT;
 use crate::layout::RETRY_AT;
 use crate::layout::TTL_AT;
@@ -51,21 +50,21 @@ pub(crate) fn header_refusal(version: u32, words: usize, flags: usize) -> u32
     0
 }
 
-// The proxy of a frame whose header has count words, 0 where it has none.
-pub(crate) fn proxy_of(frame: &[u8], count: usize) -> u32
-    requires { ⌜ 4 * count ≤ length (now frame) ⌝ }
-    ensures { λ r. ⌜ r ≡ pick (eqb count 6) (wordAt (now (frame .entry)) 5) 0 ⌝ }
+// The proxy of a frame whose header has count words, the last of them, or 0 where it has none.
+pub(crate) fn proxy_of(frame: &[u8], count: usize, has_proxy: bool) -> u32
+    requires { ⌜ (4 * count ≤ length (now frame)) × Told (wordAt (now frame)) count «has_proxy» ⌝ }
+    ensures { λ r. ⌜ r ≡ valueIn (wordAt (now (frame .entry))) proxy ⌝ }
 {
-    if count == WORDS_WITH_PROXY {
-        return word_at(frame, 5);
+    if has_proxy {
+        return word_at(frame, count - 1);
     }
     0
 }
 
 // The refusal of a frame whose version, DHL and flags are sound, 0 where there is none.
-pub(crate) fn whole_refusal(frame: &[u8], count: usize) -> u32
-    requires { ⌜ (20 ≤ length (now frame)) × (5 ≤ count) × (count ≤ 6) × (count ≡ valueIn (wordAt (now frame)) DHL) ⌝ }
-    ensures { λ r. ⌜ r ≡ inOrder (asksWhole (now (frame .entry)) (wordAt (now (frame .entry)))) ⌝ }
+pub(crate) fn whole_refusal(frame: &[u8], count: usize, has_proxy: bool) -> u32
+    requires { ⌜ Told (wordAt (now frame)) count «has_proxy» ⌝ }
+    ensures { λ r. ⌜ r ≡ inOrder (wholeAsks (now (frame .entry))) ⌝ }
 {
     if frame.len() < 4 * count {
         return SHORT_FRAME;
@@ -76,8 +75,8 @@ pub(crate) fn whole_refusal(frame: &[u8], count: usize) -> u32
     }
     let source = word_at(frame, 3);
     let destination = word_at(frame, 4);
-    let proxy = proxy_of(frame, count);
-    if !addresses_fit(source, destination, count == WORDS_WITH_PROXY, proxy) {
+    let proxy = proxy_of(frame, count, has_proxy);
+    if !addresses_fit(source, destination, has_proxy, proxy) {
         return BAD_ADDRESS;
     }
     let first = word_at(frame, 0);
@@ -103,7 +102,8 @@ pub(crate) fn frame_refusal(frame: &[u8]) -> u32
     if refused != 0 {
         return refused;
     }
-    whole_refusal(frame, words)
+    let has_proxy = third / FLAGS_AT % BITS_4 % 2 == PF;
+    whole_refusal(frame, words, has_proxy)
 }
 
 // A refusal with zero in every other field.
@@ -128,7 +128,7 @@ pub(crate) fn refused_header(number: u32) -> Header
 // The fields of a frame that is accepted.
 pub(crate) fn header_of(frame: &[u8]) -> Header
     requires { ⌜ frameRefusal (now frame) ≡ 0 ⌝ }
-    ensures { λ r. ⌜ r ≡ headerOf (wordAt (now (frame .entry))) ⌝ }
+    ensures { λ r. ⌜ r ≡ headerOf (valueIn (wordAt (now (frame .entry)))) ⌝ }
 {
     let first = word_at(frame, 0);
     let second = word_at(frame, 1);
@@ -136,7 +136,8 @@ pub(crate) fn header_of(frame: &[u8]) -> Header
     let source = word_at(frame, 3);
     let destination = word_at(frame, 4);
     let words = (first / DHL_AT % BITS_4) as usize;
-    let proxy = proxy_of(frame, words);
+    let has_proxy = third / FLAGS_AT % BITS_4 % 2 == PF;
+    let proxy = proxy_of(frame, words, has_proxy);
     let header_length = 4 * (first / DHL_AT % BITS_4);
     Header {
         refusal: 0,
@@ -147,7 +148,7 @@ pub(crate) fn header_of(frame: &[u8]) -> Header
         ttl: third / TTL_AT % BITS_8,
         source,
         destination,
-        has_proxy: words == WORDS_WITH_PROXY,
+        has_proxy,
         proxy,
         header_length,
     }

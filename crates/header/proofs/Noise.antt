@@ -10,19 +10,20 @@ use lib.ListN.{length, getD, set, length-set}
 use lib.Seq.{getD-set-same, getD-set-other}
 use borrow.Author.Tests.{eqb-true, eqb-false}
 use Rattle.combine.proofs.Tests.{cases}
-use Rattle.frame.specs.Layout.{DHL, flags, checksum, bits, has, before, offsetIn, offset, wordsWith, valueIn, wordAt}
+use Rattle.rows.specs.Rows.{bits, has, before, offsetIn}
+use Rattle.frame.specs.Layout.{DHL, flags, checksum, wordsWith, isPF, valueIn, offset, wordAt}
 use Rattle.frame.specs.Checksum.{halves, checksumOf, checksumPlace, headerChecksum, unseen}
-use Rattle.frame.specs.Asks.{isPF, frameRefusal}
+use Rattle.frame.specs.Asks.{frameRefusal}
 use Rattle.frame.proofs.Sums.{halves-upper, halves-lower, halves-fit}
-use Rattle.frame.proofs.Rows.{version-in, DHL-in, flags-in, checksum-in}
+use Rattle.frame.proofs.Rows.{words-fit, version-in, DHL-in, flags-in, checksum-in}
 use Rattle.frame.proofs.Words.{Bytes, word-fits}
-use Rattle.frame.proofs.Frames.{Sound, accepted-sound}
+use Rattle.frame.proofs.Frames.{SoundFrame, accepted-sound}
 use Rattle.header.proofs.Changes.{checksum-not-ones, change-seen}
 
 -- a sound header's checksum, over its 16-bit words
-checked-halves : (frame : List ℕ) (words : ℕ → ℕ) → Sound frame words → halves words 5 ≡ checksumOf 5 (halves words) (2 * valueIn words DHL)
+checked-halves : (frame : List ℕ) → SoundFrame frame → halves (wordAt frame) 5 ≡ checksumOf 5 (halves (wordAt frame)) (2 * valueIn (wordAt frame) DHL)
 unfolding headerChecksum checksumPlace offset offsetIn before has bits
-checked-halves frame words s = halves-lower words 2 ∙ sym (checksum-in words) ∙ s .checked
+checked-halves frame s = halves-lower (wordAt frame) 2 ∙ sym (checksum-in (wordAt frame)) ∙ s .checked
 
 -- a header whose checksum field is FFFF is never accepted
 pub ones-never : (frame : List ℕ) → Bytes frame → frameRefusal frame ≡ 0 → valueIn (wordAt frame) checksum ≡ 65535 → ⊥
@@ -30,7 +31,8 @@ unfolding headerChecksum checksumPlace offset offsetIn before has bits
 ones-never frame fit e q =
     let words : ℕ → ℕ = wordAt frame in
     let s = accepted-sound frame e in
-    checksum-not-ones 5 (halves words) (2 * valueIn words DHL) 0 (λ i. halves-fit words i (word-fits frame fit)) (omega (arith, s .low)) (λ z. omega arith)
+    let n = words-fit (isPF (valueIn words flags)) in
+    checksum-not-ones 5 (halves words) (2 * valueIn words DHL) 0 (λ i. halves-fit words i (word-fits frame fit)) (omega (arith, s .agrees, n .0)) (λ z. omega arith)
     (omega (arith, halves-upper words 0, version-in words, s .versioned)) (sym (s .checked) ∙ q)
 
 -- two frames whose headers differ in one 16-bit word at most
@@ -60,8 +62,8 @@ module _ (frame other : List ℕ) (fit : Bytes frame) (fit′ : Bytes other) (i 
       → unseen (halves (wordAt frame) i) (halves (wordAt other) i) ≡ false → ⊥
   one-word h d u =
       change-seen 5 i (2 * valueIn (wordAt frame) DHL) (halves (wordAt frame)) (halves (wordAt other)) (λ j. halves-fit (wordAt frame) j (word-fits frame fit))
-      (λ j. halves-fit (wordAt other) j (word-fits other fit′)) h same (checked-halves frame (wordAt frame) (accepted-sound frame e))
-      (checked-halves other (wordAt other) (accepted-sound other e′)
+      (λ j. halves-fit (wordAt other) j (word-fits other fit′)) h same (checked-halves frame (accepted-sound frame e))
+      (checked-halves other (accepted-sound other e′)
       ∙ ap (λ (n : ℕ). checksumOf 5 (halves (wordAt other)) (2 * n)) (sym one-length))
       d u
 

@@ -1,136 +1,161 @@
--- Laws of the words that are written: each field's value in its place.
+-- Laws of the words that are written: what stands in each, that the checksum goes by every field but its own, and what is refused.
 use mathlib.Core.Path.{_≡_, refl, _∙_, ap, sym}
 use mathlib.Core.Bool.{Bool, true, false}
 use mathlib.Core.List.{List, [], _∷_, _++_}
-use Prim.Native.Nat.{ℕ, zero, suc, _+_, _-_, _*_, _%_, _≤_, _<_}
+use Prim.Native.Nat.{ℕ, _+_, _*_, _/_, _≤_, _<_}
 use native.Mathlib.Omega.{arith}
-use lib.Dec.{leb}
-use lib.ListN.{length, getD, drop}
-use borrow.Author.Tests.{ne-eqb, le-leb, lt-leb, leb-true, leb-false}
+use lib.Dec.{eqb, leb}
+use lib.ListN.{length, getD, set, drop}
+use lib.Seq.{getD-set-same, getD-set-other}
+use borrow.Author.Tests.{eqb-true, eqb-false, ne-eqb, le-leb, lt-leb, leb-true, leb-false}
 use Rattle.combine.specs.Tests.{pick}
 use Rattle.combine.specs.Lists.{upTo}
 use Rattle.combine.proofs.Tests.{cases}
-use Rattle.combine.proofs.Lists.{getD-upTo}
+use Rattle.combine.proofs.Lists.{getD-upTo, length-upTo}
 use Rattle.hall.specs.Refusals.{refusal}
-use Rattle.frame.specs.Layout.{wordsOf, wordsWith, bytesOf}
-use Rattle.frame.specs.Checksum.{total, folded, checksumOf, headerChecksum}
+use Rattle.rows.specs.Rows.{bits, has, within, joined, laid}
+use Rattle.rows.proofs.Rows.{laid-cong, laid-front, row-within}
+use Rattle.frame.specs.Layout.{retry, flags, TTL, checksum, proxy, moreOf, rowsOf, wordsWith, bytesOf}
+use Rattle.frame.specs.Checksum.{checksumOf, headerChecksum}
 use Rattle.frame.specs.Addresses.{addressesFit}
-use Rattle.frame.proofs.Rows.{word-0, word-1, word-2, word-3, word-4, word-5, word-beyond}
-use Rattle.frame.proofs.Sums.{checksum-words}
+use Rattle.frame.proofs.Rows.{words-fit, checksum-row}
+use Rattle.frame.proofs.Sums.{checksum-cong, checksum-upper}
 use Rattle.frame.proofs.Words.{bytes-cong, bytes-length}
 use Rattle.header.specs.declared.Fields.{Fields}
-use Rattle.header.specs.Writing.{countOf, valuesOf, sumOf, headerWords, headerBytes, writeRefusal, roomWritten}
+use Rattle.header.specs.Writing.{rowsFor, countOf, valuesOf, sumOf, sealed, headerWords, headerBytes, writeRefusal, roomWritten}
 
--- the fields' values fit their bits
-pub record Fit (fields : Fields) : Type 0 where
-  pub protocol : fields .protocol < 256
-  pub «payload_length» : fields .«payload_length» < 65536
-  pub identification : fields .identification < 4294967296
-  pub retry : fields .retry ≤ 15
-  pub ttl : fields .ttl < 256
-  pub source : fields .source < 4294967296
-  pub destination : fields .destination < 4294967296
-  pub proxy : fields .proxy < 4294967296
+-- values that differ in the checksum alone
+module _ (b : Bool) (values other : ℕ → ℕ) (same : (f : ℕ) → within f (rowsOf b) ≡ true → (f ≡ checksum → ⊥) → values f ≡ other f)
+    (small : values checksum ≤ 65535) (small′ : other checksum ≤ 65535) where
+  -- make words that differ in the third alone
+  pub same-word : (i : ℕ) → (i ≡ 2 → ⊥) → laid (rowsOf b) values i ≡ laid (rowsOf b) other i
+  same-word i d =
+      laid-cong (rowsOf b) values other i (λ f h. same f (row-within (rowsOf b) i f h) (λ e. d (checksum-row b i (rw e at h))))
 
-module _ (fields : Fields) (sum : ℕ) where
-  pub first-is : wordsOf (valuesOf fields sum) 0
-      ≡ 1 * 268435456 + countOf fields * 16777216 + fields .protocol * 65536 + fields .«payload_length»
-  unfolding valuesOf
-  first-is = word-0 (valuesOf fields sum)
+  -- and there in the lower half
+  same-upper : laid (rowsOf b) values 2 / 65536 ≡ laid (rowsOf b) other 2 / 65536
+  unfolding laid joined bits has within
+  same-upper =
+      omega (arith, same retry refl (λ e. omega arith), same flags refl (λ e. omega arith), same TTL refl (λ e. omega arith))
 
-  pub third-is : wordsOf (valuesOf fields sum) 2
-      ≡ fields .retry * 268435456 + pick (fields .«has_proxy») 1 0 * 16777216 + fields .ttl * 65536 + sum
-  unfolding valuesOf
-  third-is = word-2 (valuesOf fields sum)
+  -- so they have one checksum
+  pub sum-same : (n : ℕ) → headerChecksum (laid (rowsOf b) values) n ≡ headerChecksum (laid (rowsOf b) other) n
+  sum-same n = checksum-upper (laid (rowsOf b) values) (laid (rowsOf b) other) n (λ i h. same-word i) same-upper
 
-  pub second-is : wordsOf (valuesOf fields sum) 1 ≡ fields .identification
-  unfolding valuesOf
-  second-is = word-1 (valuesOf fields sum)
-
-  pub fourth-is : wordsOf (valuesOf fields sum) 3 ≡ fields .source
-  unfolding valuesOf
-  fourth-is = word-3 (valuesOf fields sum)
-
-  pub fifth-is : wordsOf (valuesOf fields sum) 4 ≡ fields .destination
-  unfolding valuesOf
-  fifth-is = word-4 (valuesOf fields sum)
-
-  pub sixth-is : wordsOf (valuesOf fields sum) 5 ≡ fields .proxy
-  unfolding valuesOf
-  sixth-is = word-5 (valuesOf fields sum)
-
--- the first word does not have the checksum
-pub first-any : (fields : Fields) (sum : ℕ) → wordsOf (valuesOf fields sum) 0 ≡ wordsOf (valuesOf fields 0) 0
-first-any fields sum = first-is fields sum ∙ sym (first-is fields 0)
-
-pub count-fits : (fields : Fields) → (5 ≤ countOf fields) × (countOf fields ≤ 6)
-count-fits fields = cases (fields .«has_proxy») (λ q. rw q (omega arith, omega arith)) (λ q. rw q (omega arith, omega arith))
+pub sum-fits : (words : ℕ → ℕ) (n : ℕ) → headerChecksum words n ≤ 65535
+unfolding headerChecksum checksumOf
+sum-fits words n = omega arith
 
 pub flag-small : (b : Bool) → pick b 1 0 ≤ 1
 flag-small true = omega arith
 flag-small false = omega arith
 
--- every word that is written fits 32 bits
-pub written-fits : (fields : Fields) (sum : ℕ) → Fit fields → sum ≤ 65535 → (i : ℕ) → wordsOf (valuesOf fields sum) i < 4294967296
-written-fits fields sum f h zero = let k = count-fits fields in omega (arith, k .1, first-is fields sum, f .protocol, f .«payload_length»)
-written-fits fields sum f h (suc zero) = omega (arith, second-is fields sum, f .identification)
-written-fits fields sum f h (suc (suc zero)) = omega (arith, flag-small (fields .«has_proxy»), third-is fields sum, f .retry, f .ttl)
-written-fits fields sum f h (suc (suc (suc zero))) = omega (arith, fourth-is fields sum, f .source)
-written-fits fields sum f h (suc (suc (suc (suc zero)))) = omega (arith, fifth-is fields sum, f .destination)
-written-fits fields sum f h (suc (suc (suc (suc (suc zero))))) = omega (arith, sixth-is fields sum, f .proxy)
-written-fits fields sum f h (suc (suc (suc (suc (suc (suc i)))))) = omega (arith, word-beyond (valuesOf fields sum) i)
+-- the longest rows are the others, and the proxy's behind them
+longest : rowsOf true ≡ rowsOf false ++ (((proxy, 32) ∷ []) ∷ [])
+unfolding moreOf
+longest = refl
 
--- the plain sums of five and of six words
-pub total-five : (words : ℕ → ℕ) → total words 5 ≡ words 0 + words 1 + words 2 + words 3 + words 4
-unfolding total
-total-five words = omega arith
+longest-many : wordsWith true ≡ 6
+unfolding moreOf
+longest-many = refl
 
-pub total-six : (words : ℕ → ℕ) → total words 6 ≡ words 0 + words 1 + words 2 + words 3 + words 4 + words 5
-unfolding total
-total-six words = omega arith
+-- a header has the first words of the longest
+pub longest-front : (b : Bool) (values : ℕ → ℕ) (i : ℕ) → i < wordsWith b → laid (rowsOf true) values i ≡ laid (rowsOf b) values i
+longest-front true values i h = refl
+longest-front false values i h = rw longest (laid-front (rowsOf false) (((proxy, 32) ∷ []) ∷ []) values i h)
 
--- the checksum to be written, from the plain sum of the words with the field as zero
-pub sum-with : (fields : Fields) → Fit fields → fields .«has_proxy» ≡ true
-    → sumOf fields
-    ≡ 65535 - folded (wordsOf (valuesOf fields 0) 0 + fields .identification + wordsOf (valuesOf fields 0) 2 + fields .source + fields .destination + fields .proxy)
-unfolding sumOf
-sum-with fields f q =
-    let words : ℕ → ℕ = wordsOf (valuesOf fields 0) in
-    let z : total words 6 - words 2 % 65536
-    ≡ wordsOf (valuesOf fields 0) 0 + fields .identification + wordsOf (valuesOf fields 0) 2 + fields .source + fields .destination + fields .proxy =
-    omega (arith, total-six words, third-is fields 0, second-is fields 0, fourth-is fields 0, fifth-is fields 0, sixth-is fields 0) in
-    ap (λ (b : Bool). headerChecksum words (wordsWith b)) q ∙ checksum-words words 6 (written-fits fields 0 f (omega arith)) (omega arith) ∙ ap (λ (s : ℕ). 65535 - folded s) z
+module _ (fields : Fields) where
+  -- the values with their checksum
+  pub sum-small : sumOf fields ≤ 65535
+  unfolding sumOf
+  sum-small = sum-fits (laid (rowsFor fields) (valuesOf fields)) (countOf fields)
 
-pub sum-without : (fields : Fields) → Fit fields → fields .«has_proxy» ≡ false
-    → sumOf fields
-    ≡ 65535 - folded (wordsOf (valuesOf fields 0) 0 + fields .identification + wordsOf (valuesOf fields 0) 2 + fields .source + fields .destination)
-unfolding sumOf
-sum-without fields f q =
-    let words : ℕ → ℕ = wordsOf (valuesOf fields 0) in
-    let z : total words 5 - words 2 % 65536
-    ≡ wordsOf (valuesOf fields 0) 0 + fields .identification + wordsOf (valuesOf fields 0) 2 + fields .source + fields .destination =
-    omega (arith, total-five words, third-is fields 0, second-is fields 0, fourth-is fields 0, fifth-is fields 0) in
-    ap (λ (b : Bool). headerChecksum words (wordsWith b)) q ∙ checksum-words words 5 (written-fits fields 0 f (omega arith)) (omega arith) ∙ ap (λ (s : ℕ). 65535 - folded s) z
+  pub sealed-sum : sealed fields checksum ≡ sumOf fields
+  unfolding sealed
+  sealed-sum = refl
 
--- six words one after the other
-pub six-words : (words : ℕ → ℕ) → upTo words 6 ≡ words 0 ∷ words 1 ∷ words 2 ∷ words 3 ∷ words 4 ∷ words 5 ∷ []
-unfolding upTo
-six-words words = refl
+  pub sealed-other : (f : ℕ) → (f ≡ checksum → ⊥) → sealed fields f ≡ valuesOf fields f
+  unfolding sealed
+  sealed-other f d = rw (ne-eqb f checksum d)
 
-pub sum-fits : (fields : Fields) → sumOf fields ≤ 65535
-unfolding sumOf headerChecksum checksumOf
-sum-fits fields = omega arith
+  values-clear : valuesOf fields checksum ≡ 0
+  unfolding valuesOf
+  values-clear = refl
 
--- the bytes of six words, as far as they count, are the header's
-pub header-bytes : (fields : Fields) (sum count : ℕ) (words room : List ℕ) → sum ≡ sumOf fields → words ≡ upTo (wordsOf (valuesOf fields sum)) 6 → count ≡ countOf fields
-    → bytesOf (λ i. getD words i 0) count ++ drop (4 * count) room ≡ headerBytes fields ++ drop (4 * countOf fields) room
-unfolding headerBytes headerWords
-header-bytes fields sum count words room s w n =
-    let k = count-fits fields in
-    let b : bytesOf (λ i. getD words i 0) (countOf fields) ≡ bytesOf (wordsOf (valuesOf fields (sumOf fields))) (countOf fields) =
-    bytes-cong (λ i. getD words i 0) (wordsOf (valuesOf fields (sumOf fields))) (countOf fields)
-    (λ i h. rw (w, s) (getD-upTo (wordsOf (valuesOf fields (sumOf fields))) 6 i 0 (omega (arith, k .1)))) in
-    rw (n, b)
+  -- change the third word alone
+  sealed-word : (i : ℕ) → (i ≡ 2 → ⊥) → laid (rowsFor fields) (sealed fields) i ≡ laid (rowsFor fields) (valuesOf fields) i
+  sealed-word =
+      same-word (fields .«has_proxy») (sealed fields) (valuesOf fields) (λ f h. sealed-other f) (omega (arith, sealed-sum, sum-small))
+      (omega (arith, values-clear))
+
+  -- the checksum that is written is the one worked out of what is written
+  pub sum-written : headerChecksum (headerWords fields) (countOf fields) ≡ sumOf fields
+  unfolding headerWords sumOf
+  sum-written =
+      sum-same (fields .«has_proxy») (sealed fields) (valuesOf fields) (λ f h. sealed-other f) (omega (arith, sealed-sum, sum-small))
+      (omega (arith, values-clear)) (countOf fields)
+
+  -- the words of the longest header, with the checksum as zero
+  abbrev words : ℕ → ℕ
+  words = laid (rowsOf true) (valuesOf fields)
+
+  pub first-is : words 0 ≡ 1 * 268435456 + countOf fields * 16777216 + fields .protocol * 65536 + fields .«payload_length»
+  unfolding laid joined bits valuesOf
+  first-is = omega arith
+
+  pub third-is : words 2 ≡ fields .retry * 268435456 + pick (fields .«has_proxy») 1 0 * 16777216 + fields .ttl * 65536
+  unfolding laid joined bits valuesOf
+  third-is = omega arith
+
+  -- those of one field are the field
+  pub one-field : (words 1 ≡ fields .identification) × (words 3 ≡ fields .source) × (words 4 ≡ fields .destination) × (words 5 ≡ fields .proxy)
+  unfolding laid joined bits valuesOf moreOf
+  one-field = (omega arith, omega arith, omega arith, omega arith)
+
+  pub words-are : upTo words (wordsWith true) ≡ words 0 ∷ fields .identification ∷ words 2 ∷ fields .source ∷ fields .destination ∷ fields .proxy ∷ []
+  unfolding upTo moreOf
+  words-are = let o = one-field in rw (o .0, o .1, o .2, o .3)
+
+  -- an array of them
+  module _ (list : List ℕ) (e : list ≡ upTo words (wordsWith true)) where
+    word-of : (i : ℕ) → i < countOf fields → getD list i 0 ≡ laid (rowsFor fields) (valuesOf fields) i
+    word-of i h =
+        let n = words-fit (fields .«has_proxy») in
+        rw (e, getD-upTo words (wordsWith true) i 0 (omega (arith, longest-many, n .1))) (longest-front (fields .«has_proxy») (valuesOf fields) i h)
+
+    -- has zero where the checksum goes, and the checksum that is written
+    pub third-word : getD list 2 0 ≡ words 2
+    third-word = rw e (getD-upTo words (wordsWith true) 2 0 (omega (arith, longest-many)))
+
+    pub sum-is : headerChecksum (λ i. getD list i 0) (countOf fields) ≡ sumOf fields
+    unfolding sumOf
+    sum-is = checksum-cong (λ i. getD list i 0) (laid (rowsFor fields) (valuesOf fields)) (countOf fields) word-of
+
+    third-sealed : headerWords fields 2 ≡ words 2 + sumOf fields
+    unfolding headerWords laid joined bits valuesOf sealed
+    third-sealed = omega arith
+
+    word-sealed : (sum i : ℕ) → sum ≡ sumOf fields → i < countOf fields → getD (set list 2 (getD list 2 0 + sum)) i 0 ≡ headerWords fields i
+    unfolding headerWords
+    word-sealed sum i s h =
+        let l : length list ≡ wordsWith true = ap length e ∙ length-upTo words (wordsWith true) in
+        cases (eqb i 2)
+        (λ q.
+        let z : i ≡ 2 = eqb-true i 2 q in
+        rw (z, getD-set-same list 2 (getD list 2 0 + sum) 0 (omega (arith, longest-many)), third-word, s) (sym third-sealed))
+        (λ q.
+        let d = eqb-false i 2 q in
+        getD-set-other list 2 i (getD list 2 0 + sum) 0 d ∙ word-of i h ∙ sym (sealed-word i d))
+
+    -- and with it are the header's bytes
+    pub bytes-are : (sum count : ℕ) (room : List ℕ) → sum ≡ sumOf fields → count ≡ countOf fields
+        → bytesOf (λ i. getD (set list 2 (getD list 2 0 + sum)) i 0) count ++ drop (4 * count) room ≡ headerBytes fields ++ drop (4 * countOf fields) room
+    unfolding headerBytes
+    bytes-are sum count room s n =
+        rw (
+          n,
+          bytes-cong (λ i. getD (set list 2 (getD list 2 0 + sum)) i 0) (headerWords fields) (countOf fields) (λ i h. word-sealed sum i s h),
+        )
 
 -- what writing answers, and the room, refusal by refusal
 module _ (fields : Fields) (room : List ℕ) where

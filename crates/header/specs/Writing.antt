@@ -1,24 +1,39 @@
 -- What writing a header answers, and what the lent room then holds.
 -- Section "Frame header".
-use Prim.Native.Nat.{ℕ, _*_}
+use Prim.Native.Nat.{ℕ, _*_, _<_}
 use mathlib.Core.List.{List, [], _∷_, _++_}
 use lib.Dec.{eqb, leb}
 use lib.ListN.{length, getD, drop}
 use Rattle.combine.specs.Tests.{pick}
 use Rattle.hall.specs.Refusals.{refusal, bad-header, bad-address, short-room, most-retry}
+use Rattle.rows.specs.Rows.{Row, laid}
 use Rattle.frame.specs.declared.Header.{Header}
-use Rattle.frame.specs.Layout.{theVersion, wordsWith, wordsOf, bytesOf}
+use Rattle.frame.specs.Layout.{checksum, theVersion, rowsOf, wordsWith, bytesOf}
 use Rattle.frame.specs.Checksum.{headerChecksum}
 use Rattle.frame.specs.Addresses.{addressesFit}
 use Rattle.header.specs.declared.Fields.{Fields}
 
--- the header's words
+-- numbers of their types: bytes, a 16-bit length, 32-bit words
+pub record Typed (fields : Fields) : Type 0 where
+  pub protocol : fields .protocol < 256
+  pub «payload_length» : fields .«payload_length» < 65536
+  pub identification : fields .identification < 4294967296
+  pub retry : fields .retry < 256
+  pub ttl : fields .ttl < 256
+  pub source : fields .source < 4294967296
+  pub destination : fields .destination < 4294967296
+  pub proxy : fields .proxy < 4294967296
+
+-- the rows that fields are laid by, and their number
+abbrev pub rowsFor : Fields → List Row
+rowsFor fields = rowsOf (fields .«has_proxy»)
+
 abbrev pub countOf : Fields → ℕ
 countOf fields = wordsWith (fields .«has_proxy»)
 
--- the values in the layout's order, with a checksum
-unfoldable pub valuesOf : Fields → ℕ → ℕ → ℕ
-valuesOf fields sum field =
+-- the values in the order of the fields' numbers, the checksum as zero
+unfoldable pub valuesOf : Fields → ℕ → ℕ
+valuesOf fields field =
     getD
     (theVersion
     ∷ countOf fields
@@ -28,7 +43,7 @@ valuesOf fields sum field =
     ∷ fields .retry
     ∷ pick (fields .«has_proxy») 1 0
     ∷ fields .ttl
-    ∷ sum
+    ∷ 0
     ∷ fields .source
     ∷ fields .destination
     ∷ fields .proxy
@@ -37,11 +52,15 @@ valuesOf fields sum field =
 
 -- the checksum, worked out with its field as zero
 unfoldable pub sumOf : Fields → ℕ
-sumOf fields = headerChecksum (wordsOf (valuesOf fields 0)) (countOf fields)
+sumOf fields = headerChecksum (laid (rowsFor fields) (valuesOf fields)) (countOf fields)
+
+-- the values with their checksum
+unfoldable pub sealed : Fields → ℕ → ℕ
+sealed fields field = pick (eqb field checksum) (sumOf fields) (valuesOf fields field)
 
 -- the words that are written
 unfoldable pub headerWords : Fields → ℕ → ℕ
-headerWords fields = wordsOf (valuesOf fields (sumOf fields))
+headerWords fields = laid (rowsFor fields) (sealed fields)
 
 -- the 20 or 24 bytes that are written
 unfoldable pub headerBytes : Fields → List ℕ

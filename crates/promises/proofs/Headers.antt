@@ -11,7 +11,7 @@ use Rattle.frame.specs.Asks.{frameRefusal}
 use Rattle.frame.specs.Reading.{readFrame}
 use Rattle.header.specs.declared.Fields.{Fields}
 use Rattle.header.specs.Writing.{countOf, headerBytes, roomWritten, fieldsOf}
-use Rattle.header.proofs.Written.{Fit, write-accepted, room-begins, header-long}
+use Rattle.header.proofs.Written.{write-accepted, room-begins, header-long}
 use Rattle.header.proofs.RoundTrip.{round-trip, round-trip-payload}
 use Rattle.header.proofs.Encoding.{one-encoding, length-again, written-again}
 use Rattle.promises.specs.Headers.{RoundTrip, WrittenAgain}
@@ -27,22 +27,12 @@ header-first fields rest room e = rw e (take-at (headerBytes fields) rest (4 * c
 pub header-round-trip : RoundTrip
 header-round-trip fields room payload padding t e stated =
     let a = write-accepted fields room e in
-    let fit : Fit fields = record {
-      protocol = t .protocol;
-      «payload_length» = t .«payload_length»;
-      identification = t .identification;
-      retry = a .0;
-      ttl = t .ttl;
-      source = t .source;
-      destination = t .destination;
-      proxy = t .proxy;
-    } in
     let rest : List ℕ = drop (4 * countOf fields) room in
     let w = room-begins fields room e in
     let f = header-first fields rest (roomWritten fields room) w in
     record {
-      same-fields = rw f (round-trip fields fit (a .1) payload padding stated);
-      same-payload = rw f (round-trip-payload fields fit (a .1) payload padding stated);
+      same-fields = rw f (round-trip fields t (a .0) (a .1) payload padding stated);
+      same-payload = rw f (round-trip-payload fields t (a .0) (a .1) payload padding stated);
       rest-kept = rw w (drop-at (headerBytes fields) rest (4 * countOf fields) (header-long fields));
     }
 

@@ -3,23 +3,12 @@
 -- Section "Frame header".
 use mathlib.Core.Path.{_≡_}
 use mathlib.Core.List.{List, _++_}
-use Prim.Native.Nat.{ℕ, _*_, _≤_, _<_}
+use Prim.Native.Nat.{ℕ, _*_, _≤_}
 use lib.ListN.{length, take, drop}
 use Rattle.frame.specs.Reading.{readFrame, payloadOf}
 use Rattle.header.specs.declared.Fields.{Fields}
-use Rattle.header.specs.Writing.{countOf, writeRefusal, roomWritten, headerFor, fieldsOf}
-use Rattle.laying.specs.Bytes.{Bytes}
-
--- numbers of their types: bytes, a 16-bit length, 32-bit words
-pub record Typed (fields : Fields) : Type 0 where
-  pub protocol : fields .protocol < 256
-  pub «payload_length» : fields .«payload_length» < 65536
-  pub identification : fields .identification < 4294967296
-  pub retry : fields .retry < 256
-  pub ttl : fields .ttl < 256
-  pub source : fields .source < 4294967296
-  pub destination : fields .destination < 4294967296
-  pub proxy : fields .proxy < 4294967296
+use Rattle.header.specs.Writing.{Typed, countOf, writeRefusal, roomWritten, headerFor, fieldsOf}
+use Rattle.sheetparts.specs.Encoding.{Bytes}
 
 -- the header that writing leaves in the room, with a payload and padding behind it
 abbrev pub frameOf : Fields → List ℕ → List ℕ → List ℕ → List ℕ

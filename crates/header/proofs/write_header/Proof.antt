@@ -2,7 +2,8 @@
 use mathlib.Core.Path.{sym, _∙_}
 use native.Mathlib.Omega.{arith}
 use borrow.Author.Tests.{not-true, not-false}
-use Rattle.header.proofs.Written.{count-fits, write-retry, write-address, write-short, write-done}
+use Rattle.frame.proofs.Rows.{words-fit}
+use Rattle.header.proofs.Written.{write-retry, write-address, write-short, write-done}
 use borrow.Author.Needs.{needs}
 use Rattle.header.proofs.write_header.Statement.{statement}
 use Rattle.header.proofs.write_header.Tie as tie
@@ -24,7 +25,7 @@ count-of-requires c κs = search needs
 
 mul-if3 : tie.Need-mul-if3
 mul-if3 c =
-    let k = count-fits (c .before .before .before .before .before .before .args .fields) in
+    let k = words-fit (c .before .before .before .before .before .before .args .fields .«has_proxy») in
     omega (arith, c .count-of .ensures, k .1)
 
 returns-3 : tie.Need-returns-3

@@ -3,7 +3,7 @@ use mathlib.Core.Path.{_≡_, sym, _∙_}
 use Rattle.hall.specs.Refusals.{inOrder}
 use Rattle.frame.specs.Layout.{wordAt}
 use Rattle.frame.proofs.Frames.{header-words, headerAsks, frame-short, frame-header, frame-whole}
-use Rattle.frame.proofs.Rows.{DHL-in}
+use Rattle.frame.proofs.Rows.{DHL-in, flags-in}
 use borrow.Author.Needs.{needs}
 use Rattle.frame.proofs.reading.frame_refusal.Statement.{statement}
 use Rattle.frame.proofs.reading.frame_refusal.Tie as tie
@@ -40,8 +40,11 @@ whole-refusal-requires : tie.Need-whole-refusal-requires
 whole-refusal-requires c κs =
     let f = c .before .before .before .before .before .before .args .frame .now in
     let r = c .before .header-refusal in
-    let w = header-words _ _ _ (sym (r .ensures) ∙ c .if2 .left) in
-    (c .before .before .before .before .if1 .left, w .0, w .1, rw (DHL-in (wordAt f), ← c .before .before .before .word-at .ensures))
+    record {
+      counted = rw (DHL-in (wordAt f), ← c .before .before .before .word-at .ensures);
+      flagged = rw (flags-in (wordAt f), ← c .before .before .word-at2 .ensures);
+      agrees = header-words _ _ _ (sym (r .ensures) ∙ c .if2 .left);
+    }
 
 returns-3 : tie.Need-returns-3
 returns-3 c =

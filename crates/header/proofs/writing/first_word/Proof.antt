@@ -1,7 +1,8 @@
 -- `header::writing::first_word` meets its contract: each field is put where the layout has it, and there are at most six words.
 use mathlib.Core.Path.{sym}
 use native.Mathlib.Omega.{arith}
-use Rattle.header.proofs.Written.{count-fits, first-is}
+use Rattle.frame.proofs.Rows.{words-fit}
+use Rattle.header.proofs.Written.{first-is}
 use borrow.Author.Needs.{needs}
 use Rattle.header.proofs.writing.first_word.Statement.{statement}
 use Rattle.header.proofs.writing.first_word.Tie as tie
@@ -11,7 +12,7 @@ count-of-requires c κs = search needs
 
 cast-words : tie.Need-cast-words
 cast-words c =
-    let k = count-fits (c .before .args .fields) in
+    let k = words-fit (c .before .args .fields .«has_proxy») in
     omega (arith, c .count-of .ensures, k .1)
 
 mul-result : tie.Need-mul-result
@@ -19,12 +20,12 @@ mul-result c = search needs
 
 mul-result-2 : tie.Need-mul-result-2
 mul-result-2 c =
-    let k = count-fits (c .before .args .fields) in
+    let k = words-fit (c .before .args .fields .«has_proxy») in
     omega (arith, c .count-of .ensures, k .1)
 
 add-result : tie.Need-add-result
 add-result c =
-    let k = count-fits (c .before .args .fields) in
+    let k = words-fit (c .before .args .fields .«has_proxy») in
     omega (arith, c .count-of .ensures, k .1)
 
 cast-result : tie.Need-cast-result
@@ -35,7 +36,7 @@ mul-result-3 c = search needs
 
 add-result-2 : tie.Need-add-result-2
 add-result-2 c =
-    let k = count-fits (c .before .before .args .fields) in
+    let k = words-fit (c .before .before .args .fields .«has_proxy») in
     omega (arith, c .before .count-of .ensures, k .1)
 
 cast-result-2 : tie.Need-cast-result-2
@@ -43,11 +44,11 @@ cast-result-2 c = search needs
 
 add-result-3 : tie.Need-add-result-3
 add-result-3 c =
-    let k = count-fits (c .before .before .before .args .fields) in
+    let k = words-fit (c .before .before .before .args .fields .«has_proxy») in
     omega (arith, c .before .before .count-of .ensures, k .1)
 
 returns : tie.Need-returns
-returns c = rw (c .before .before .count-of .ensures) (sym (first-is (c .before .before .before .args .fields) 0))
+returns c = rw (c .before .before .count-of .ensures) (sym (first-is (c .before .before .before .args .fields)))
 
 pub first-word-spec : {M : Type 1} → statement M
 first-word-spec =

@@ -1,7 +1,5 @@
 -- `header::writing::header_words` meets its contract: the rows of one field are the field, and the other two are made by their functions.
-use Rattle.frame.specs.Layout.{wordsOf}
-use Rattle.header.specs.Writing.{valuesOf}
-use Rattle.header.proofs.Written.{first-any, second-is, fourth-is, fifth-is, sixth-is, six-words}
+use Rattle.header.proofs.Written.{words-are}
 use borrow.Author.Needs.{needs}
 use Rattle.header.proofs.writing.header_words.Statement.{statement}
 use Rattle.header.proofs.writing.header_words.Tie as tie
@@ -14,9 +12,7 @@ third-word-requires c κs = search needs
 
 returns : tie.Need-returns
 returns c =
-    let f = c .before .before .args .fields in
-    let s = c .before .before .args .sum in
-    rw (six-words (wordsOf (valuesOf f s)), first-any f s, second-is f s, fourth-is f s, fifth-is f s, sixth-is f s, ← c .before .first-word .ensures, ← c .third-word .ensures)
+    rw (words-are (c .before .before .args .fields), ← c .before .first-word .ensures, ← c .third-word .ensures)
 
 pub header-words-spec : {M : Type 1} → statement M
 header-words-spec = tie.close (tie.spec first-word-requires third-word-requires returns)

@@ -1,106 +1,81 @@
--- `header::writing::sum_of` meets its contract: the folded plain sum of the words with the field as zero is their ones' complement sum.
+-- `header::writing::sum_of` meets its contract. Invariant: the sum is that of the words passed, each of which fits 32 bits; what is left falls.
+use mathlib.Core.Path.{_≡_, _∙_, ap, sym}
+use Prim.Native.Nat.{ℕ, _-_, _*_, _≤_, _<_}
 use native.Mathlib.Omega.{arith}
-use mathlib.Core.Path.{sym, _∙_}
-use Rattle.header.proofs.Written.{Fit, sum-with, sum-without}
+use lib.ListN.{getD}
 use borrow.Author.Needs.{needs}
+use Rattle.frame.specs.Checksum.{total, folded}
+use Rattle.frame.proofs.Sums.{total-none, total-more, plain-sum, fit-more}
 use Rattle.header.proofs.writing.sum_of.Statement.{statement}
 use Rattle.header.proofs.writing.sum_of.Tie as tie
 
-first-word-requires : tie.Need-first-word-requires
-first-word-requires c κs = search needs
+abbrev Inv-loop : tie.InvT-loop
+Inv-loop count words sum₀ i₀ sum i =
+    (i ≤ count) × (sum ≤ 4294967295 * i) × (sum ≡ total (λ j. getD words j 0) i) × ((j : ℕ) → j < i → getD words j 0 < 4294967296)
 
-third-word-requires : tie.Need-third-word-requires
-third-word-requires c κs = search needs
+abbrev μ-loop : tie.MeasureT-loop
+μ-loop count words sum₀ i₀ sum i = count - i
 
-cast-sum : tie.Need-cast-sum
-cast-sum c = search needs
+loop-holds : tie.Need-loop-holds Inv-loop μ-loop
+loop-holds c = (omega arith, omega arith, sym (total-none _), λ j h. absurd (omega arith))
 
-cast-sum-2 : tie.Need-cast-sum-2
-cast-sum-2 c = search needs
+mul-wide : tie.Need-mul-wide Inv-loop μ-loop
+mul-wide c = omega arith
 
-add-sum : tie.Need-add-sum
-add-sum c = search needs
+array-read-wide : tie.Need-array-read-wide Inv-loop μ-loop
+array-read-wide c = omega arith
 
-cast-sum-3 : tie.Need-cast-sum-3
-cast-sum-3 c = search needs
+wide-requires : tie.Need-wide-requires Inv-loop μ-loop
+wide-requires c κs = search needs
 
-add-sum-2 : tie.Need-add-sum-2
-add-sum-2 c = search needs
+add-sum : tie.Need-add-sum Inv-loop μ-loop
+add-sum c = omega arith
 
-cast-sum-4 : tie.Need-cast-sum-4
-cast-sum-4 c = search needs
+add-i : tie.Need-add-i Inv-loop μ-loop
+add-i c = omega arith
 
-add-sum-3 : tie.Need-add-sum-3
-add-sum-3 c = search needs
+loop-less : tie.Need-loop-less Inv-loop μ-loop
+loop-less c = omega arith
 
-cast-sum-5 : tie.Need-cast-sum-5
-cast-sum-5 c = search needs
+loop-again : tie.Need-loop-again Inv-loop μ-loop
+loop-again c =
+    let l = c .before .before .loop in
+    let w = c .before .before .before .args .t1 in
+    let r = c .wide in
+    let f : getD w (l .i) 0 < 4294967296 = omega (arith, r .ensures .0, r .ensures .1) in (
+      omega arith,
+      omega (arith, r .ensures .1),
+      omega (arith, r .ensures .0, l .inv .2, total-more (λ j. getD w j 0) (l .i)),
+      fit-more (λ j. getD w j 0) (l .i) (l .inv .3) f,
+    )
 
-add-sum-4 : tie.Need-add-sum-4
-add-sum-4 c = search needs
-
-cast-complement : tie.Need-cast-complement
-cast-complement c = search needs
-
-add-complement : tie.Need-add-complement
-add-complement c = search needs
-
-complement-requires : tie.Need-complement-requires
+complement-requires : tie.Need-complement-requires Inv-loop μ-loop
 complement-requires c κs = search needs
 
-returns : tie.Need-returns
+returns : tie.Need-returns Inv-loop μ-loop
 returns c =
-    let a = c .before .before .before .before .before .before .before .before .args in
-    let f : Fit (a .fields) =
-    record {
-      protocol = omega arith;
-      «payload_length» = omega arith;
-      identification = omega arith;
-      retry = c .before .before .before .before .before .before .before .before .pre;
-      ttl = omega arith;
-      source = omega arith;
-      destination = omega arith;
-      proxy = omega arith;
-    } in
-    c .complement .ensures ∙ rw (c .before .before .before .before .before .before .before .first-word .ensures, c .before .before .before .before .before .before .third-word .ensures) (sym (sum-with (a .fields) f (c .before .before .if1 .taken)))
-
-complement-requires-2 : tie.Need-complement-requires-2
-complement-requires-2 c κs = search needs
-
-returns-2 : tie.Need-returns-2
-returns-2 c =
-    let a = c .before .before .before .before .before .before .before .args in
-    let f : Fit (a .fields) =
-    record {
-      protocol = omega arith;
-      «payload_length» = omega arith;
-      identification = omega arith;
-      retry = c .before .before .before .before .before .before .before .pre;
-      ttl = omega arith;
-      source = omega arith;
-      destination = omega arith;
-      proxy = omega arith;
-    } in
-    c .complement2 .ensures ∙ rw (c .before .before .before .before .before .before .first-word .ensures, c .before .before .before .before .before .third-word .ensures) (sym (sum-without (a .fields) f (c .before .if1 .left)))
+    let l = c .before .before .loop in
+    let a = c .before .before .before .args in
+    let e : l .i ≡ a .count = omega arith in
+    let w : ℕ → ℕ = λ j. getD (a .t1) j 0 in
+    let s = l .inv .2 ∙ ap (total (λ j. getD (a .t1) j 0)) e in
+    c .complement .ensures
+    ∙ ap (λ (s : ℕ). 65535 - folded s) s
+    ∙ plain-sum (λ j. getD (a .t1) j 0) (a .count) (λ i h. l .inv .3 i (omega arith)) (c .before .before .before .pre .0) (c .before .before .before .pre .2)
 
 pub sum-of-spec : {M : Type 1} → statement M
 sum-of-spec =
     tie.close
     (tie.spec
-    first-word-requires
-    third-word-requires
-    cast-sum
-    cast-sum-2
+    Inv-loop
+    μ-loop
+    loop-holds
+    mul-wide
+    array-read-wide
+    wide-requires
     add-sum
-    cast-sum-3
-    add-sum-2
-    cast-sum-4
-    add-sum-3
-    cast-sum-5
-    add-sum-4
-    cast-complement
-    add-complement
+    add-i
+    loop-less
+    loop-again
     complement-requires
-    returns
-    complement-requires-2
-    returns-2)
+    returns)

@@ -30,11 +30,8 @@ mul-result-3 c = search needs
 add-result-2 : tie.Need-add-result-2
 add-result-2 c = omega (arith, c .before .before .flags-of .ensures, flag-small (c .before .before .before .args .fields .«has_proxy»))
 
-add-result-3 : tie.Need-add-result-3
-add-result-3 c = omega (arith, c .before .before .flags-of .ensures, flag-small (c .before .before .before .args .fields .«has_proxy»))
-
 returns : tie.Need-returns
-returns c = rw (c .before .before .flags-of .ensures) (sym (third-is (c .before .before .before .args .fields) (c .before .before .before .args .sum)))
+returns c = rw (c .before .before .flags-of .ensures) (sym (third-is (c .before .before .before .args .fields)))
 
 pub third-word-spec : {M : Type 1} → statement M
 third-word-spec =
@@ -48,5 +45,4 @@ third-word-spec =
     cast-result-2
     mul-result-3
     add-result-2
-    add-result-3
     returns)
