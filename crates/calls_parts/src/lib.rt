@@ -7,8 +7,7 @@ ghost use Rattle.route.specs.Answers.{firstLinkOf};
 ghost use Rattle.ports.specs.Codes.{known, firstUnknown, up};
 ghost use Rattle.frame.specs.Addresses.{addressesFit};
 ghost use Rattle.frame.specs.Checksum.{folded};
-ghost use Rattle.sheet.specs.Formats.{wordAt};
-ghost use Rattle.words.specs.Words.{wordsBytes};
+ghost use Rattle.words.specs.Words.{wordsBytes, wordAt};
 ghost use Rattle.words.specs.Rooms.{roomOf};
 ghost use Rattle.hall.specs.Rooms.{told, written};
 ghost use Rattle.hall.specs.Halls.{hallOf};
@@ -109,7 +108,7 @@ pub extern "C" fn calls_complement(sum: u64) -> u32
 pub extern "C" fn calls_word_at(sheet: &[u8], at: usize) -> u32
     ensures { λ r. ⌜ r ≡ wordAt (now (sheet .entry)) at ⌝ }
 {
-    sheet::word_at(sheet, at)
+    words::word_at(sheet, at)
 }
 
 #[no_mangle]

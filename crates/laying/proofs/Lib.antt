@@ -1,3 +1,2 @@
 -- The laws.
-pub mod Bytes
 pub mod Reading

@@ -9,12 +9,13 @@ use native.Mathlib.Omega.{arith}
 use lib.ListN.{length, drop, length-append, length-drop}
 use Rattle.combine.proofs.Tests.{cases}
 use Rattle.sheet.specs.declared.Field.the-variants.{Value, Refused}
-use Rattle.sheet.specs.Formats.{Format, done, field, and-then, value, read}
+use Rattle.words.specs.Words.{value, Bytes, bytesOf}
+use Rattle.words.proofs.Words.{drop-bytes}
+use Rattle.words.proofs.Bytes.{bytes-long, value-laid, drop-laid, value-fits}
+use Rattle.sheet.specs.Formats.{Format, done, field, and-then, read}
 use Rattle.sheet.specs.Sheets.{times}
 use Rattle.sheet.proofs.Reading.{onward, read-done, read-sound, read-wrong, read-cut, read-cases}
 use Rattle.sheet.proofs.Numbers.{Numbers, at-end, numbers}
-use Rattle.laying.specs.Bytes.{Bytes, bytesOf}
-use Rattle.laying.proofs.Bytes.{drop-bytes, bytes-long, value-laid, drop-laid, value-fits}
 use Rattle.laying.specs.Filled.{Filled, ended, put, result, laid, judged, FirstUnsound, here, further, All, Fits, Sound, valuesIn, fill-then, each, joined, Every}
 
 -- the bytes of a filled format are read as its values are judged, whatever stands before and behind them

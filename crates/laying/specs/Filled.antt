@@ -9,9 +9,9 @@ use lib.ListN.{length}
 use Rattle.combine.specs.Tests.{pick}
 use Rattle.sheet.specs.declared.Field.{Field}
 use Rattle.sheet.specs.declared.Field.the-variants.{Value, Refused}
-use Rattle.sheet.specs.Formats.{Format, done, field, and-then, value}
+use Rattle.words.specs.Words.{value, bytesOf}
+use Rattle.sheet.specs.Formats.{Format, done, field, and-then}
 use Rattle.sheet.specs.Sheets.{times}
-use Rattle.laying.specs.Bytes.{bytesOf}
 
 -- a value for each field, whether it is sound or not; the fields behind it are those that the value calls for
 pub data Filled : Format → Type 0 where

@@ -22,7 +22,7 @@ use Rattle.forward.specs.Steps.{reachable, firstLevel, rerouteOn, stepFrom, ste
 use Rattle.forward.specs.Journeys.{tripOn}
 use Rattle.forward.specs.Answers.{passed}
 use Rattle.sheet.specs.Formats.{read, and-then}
-use Rattle.sheet.specs.Formats as sheet
+use Rattle.words.specs.Words as words
 use Rattle.sheet.specs.Sheets.{times, packet, tablesOf, nightSheet}
 use Rattle.sheet.specs.Answers.{sheetOf}
 use Rattle.sheet.specs.Worked.{sheetWith}
@@ -30,5 +30,5 @@ use Rattle.promises.specs.Cases.{Case, value, cases}
 
 -- each case has the value that is stated
 pub all-cases : map (λ (c : Case). value (c .0)) cases ≡ map (λ (c : Case). c .1) cases
-unfolding anyBelow allBelow upTo refusal t g cell same sub port end near far neighbour lowest nFits kFits bFits valid servers entry limit uidUpTo entryFits tupleFits entryAt sizeAt known allKnown firstUnknown codeOf up tableLength cellLength run onSwitch bothUp joined new mark marks route hops padded inHall firstAmong firstAbove firstLink lowestFrom cellSize placeOf firstOf linked distancesFrom distance nearer hop isArrived goal usable isCandidate bestBelow firstFound choice reachable firstLevel rerouteOn stepFrom stepOn tripOn passed sheetOf sheetWith nightSheet tablesOf times packet read and-then sheet.value
+unfolding anyBelow allBelow upTo refusal t g cell same sub port end near far neighbour lowest nFits kFits bFits valid servers entry limit uidUpTo entryFits tupleFits entryAt sizeAt known allKnown firstUnknown codeOf up tableLength cellLength run onSwitch bothUp joined new mark marks route hops padded inHall firstAmong firstAbove firstLink lowestFrom cellSize placeOf firstOf linked distancesFrom distance nearer hop isArrived goal usable isCandidate bestBelow firstFound choice reachable firstLevel rerouteOn stepFrom stepOn tripOn passed sheetOf sheetWith nightSheet tablesOf times packet read and-then words.value
 all-cases = refl

@@ -8,7 +8,7 @@ use lib.ListN.{length, take, drop}
 use Rattle.frame.specs.Reading.{readFrame, payloadOf}
 use Rattle.header.specs.declared.Fields.{Fields}
 use Rattle.header.specs.Writing.{Typed, countOf, writeRefusal, roomWritten, headerFor, fieldsOf}
-use Rattle.sheetparts.specs.Encoding.{Bytes}
+use Rattle.words.specs.Words.{Bytes}
 
 -- the header that writing leaves in the room, with a payload and padding behind it
 abbrev pub frameOf : Fields → List ℕ → List ℕ → List ℕ → List ℕ

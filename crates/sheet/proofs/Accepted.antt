@@ -14,7 +14,8 @@ use Rattle.hall.specs.Refusals.{bad-hall, bad-uid, bad-length, bad-code, bad-he
 use Rattle.ports.specs.Codes.{known, tableLength}
 use Rattle.sheet.specs.declared.Field.{Field}
 use Rattle.sheet.specs.declared.Field.the-variants.{Value, Refused}
-use Rattle.sheet.specs.Formats.{Format, done, field, and-then, value, read}
+use Rattle.words.specs.Words.{value}
+use Rattle.sheet.specs.Formats.{Format, done, field, and-then, read}
 use Rattle.sheet.specs.Sheets.{any, count, number-n, number-k, number-b, code, uid, retry, times, codes, packet, packets, tablesOf, nightSheet}
 use Rattle.sheet.specs.Answers.{hallOf}
 use Rattle.sheet.proofs.Reading.{onward, read-done, read-sound, read-wrong, read-cut, read-cases, read-then, field-read, then-value, any-there, times-none, valid-read}

@@ -10,9 +10,11 @@ use Rattle.hall.specs.Refusals.{bad-code}
 use Rattle.ports.specs.Codes.{known, firstUnknown}
 use Rattle.ports.proofs.Tables.{known-before, first-within}
 use Rattle.sheet.specs.declared.Field.the-variants.{Value}
-use Rattle.sheet.specs.Formats.{value, read}
+use Rattle.words.specs.Words.{value}
+use Rattle.sheet.specs.Formats.{read}
 use Rattle.sheet.specs.Sheets.{code, codes}
-use Rattle.sheet.proofs.Reading.{field-read, field-sound, value-one}
+use Rattle.words.proofs.Words.{value-one}
+use Rattle.sheet.proofs.Reading.{field-read, field-sound}
 use Rattle.sheet.proofs.Accepted.{times-past}
 
 -- a code takes one byte

@@ -12,7 +12,8 @@ use Rattle.combine.proofs.Tests.{cases}
 use Rattle.hall.specs.Refusals.{bad-sheet}
 use Rattle.sheet.specs.declared.Field.{Field}
 use Rattle.sheet.specs.declared.Field.the-variants.{Value, Refused}
-use Rattle.sheet.specs.Formats.{Format, done, field, value, read}
+use Rattle.words.specs.Words.{value}
+use Rattle.sheet.specs.Formats.{Format, done, field, read}
 use Rattle.sheet.specs.Sheets.{longest, nightSheet}
 use Rattle.sheet.specs.Answers.{refusedAt, sheetOf}
 use Rattle.sheet.specs.Faults.{Reached, here, behind, First, wrong, cut, ended}

@@ -15,7 +15,8 @@ use Rattle.hall.specs.Refusals.{bad-hall, bad-length, bad-code}
 use Rattle.ports.specs.Codes.{known, tableLength}
 use Rattle.sheet.specs.declared.Field.{Field}
 use Rattle.sheet.specs.declared.Field.the-variants.{Value, Refused}
-use Rattle.sheet.specs.Formats.{value, read}
+use Rattle.words.specs.Words.{value}
+use Rattle.sheet.specs.Formats.{read}
 use Rattle.sheet.specs.Sheets.{longest, code, retry, codes, packet, packets, tablesOf, nightSheet}
 use Rattle.sheet.specs.Answers.{countPlace, codesPlace, codeCountOf, hallOf, acceptedAs, sheetOf, packetPlace}
 use Rattle.sheet.specs.Accepted.{packetCountOf, PacketFits, Accepted}

@@ -15,7 +15,8 @@ use Rattle.ports.specs.Codes.{known, tableLength}
 use Rattle.sheet.specs.declared.Field.{Field}
 use Rattle.sheet.specs.declared.Field.the-variants.{Value, Refused}
 use Rattle.sheet.specs.declared.Sheet.{Sheet}
-use Rattle.sheet.specs.Formats.{Format, done, field, and-then, value, read}
+use Rattle.words.specs.Words.{value}
+use Rattle.sheet.specs.Formats.{Format, done, field, and-then, read}
 use Rattle.sheet.specs.Sheets.{longest, any, code, times, packet, tablesOf, nightSheet}
 use Rattle.sheet.specs.Answers.{sheetOf}
 use Rattle.sheet.proofs.Reading.{read-done, read-sound, read-wrong, read-cut, read-cases}

@@ -2,7 +2,7 @@
 use mathlib.Core.Path.{_≡_, refl}
 use mathlib.Core.List.{List}
 use Prim.Native.Nat.{ℕ, _+_}
-use Rattle.sheet.specs.Formats.{value}
+use Rattle.words.specs.Words.{value}
 use Rattle.sheet.specs.Answers.{countPlace, codesPlace}
 
 -- the hall table begins behind the second count

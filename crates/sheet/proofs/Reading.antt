@@ -3,11 +3,11 @@
 use mathlib.Core.Path.{_≡_, refl, sym, _∙_, ap}
 use mathlib.Core.Bool.{Bool, true, false}
 use mathlib.Core.List.{List}
-use Prim.Native.Nat.{ℕ, zero, suc, _+_, _-_, _*_, _≤_, _<_}
+use Prim.Native.Nat.{ℕ, zero, suc, _+_, _-_, _≤_, _<_}
 use native.Mathlib.Numerals.{add-one}
 use native.Mathlib.Omega.{arith}
 use lib.Dec.{leb}
-use lib.ListN.{length, getD}
+use lib.ListN.{length}
 use borrow.Author.Tests.{leb-true, leb-false, le-leb, lt-leb}
 use Rattle.combine.specs.Tests.{pick}
 use Rattle.combine.proofs.Tests.{cases}
@@ -15,7 +15,8 @@ use Rattle.hall.specs.Refusals.{bad-hall, bad-sheet}
 use Rattle.hall.specs.Halls.{nFits, kFits, bFits, valid}
 use Rattle.sheet.specs.declared.Field.{Field}
 use Rattle.sheet.specs.declared.Field.the-variants.{Value, Refused}
-use Rattle.sheet.specs.Formats.{Format, done, field, and-then, value, wordAt, read}
+use Rattle.words.specs.Words.{value}
+use Rattle.sheet.specs.Formats.{Format, done, field, and-then, read}
 use Rattle.sheet.specs.Sheets.{any, number-n, number-k, number-b, times}
 
 -- the next place, or the refusal's
@@ -132,29 +133,6 @@ any-there s width at h = read-sound s width (λ x. true) 0 done at h refl ∙ re
 
 pub any-cut : (s : List ℕ) (width at : ℕ) → length s < at + width → read (any width) s at ≡ Refused bad-sheet (length s)
 any-cut s width at h = read-cut s width (λ x. true) 0 done at h
-
--- the number in one byte, and in four
-pub value-one : (s : List ℕ) (at : ℕ) → value s at 1 ≡ getD s at 0
-unfolding value
-value-one s at =
-    let e : at + 0 ≡ at = omega arith in
-    omega (arith, ap (λ (i : ℕ). getD s i 0) e)
-
-pub value-four : (s : List ℕ) (at : ℕ)
-    → value s at 4 ≡ ((getD s at 0 * 256 + getD s (at + 1) 0) * 256 + getD s (at + 2) 0) * 256 + getD s (at + 3) 0
-unfolding value
-value-four s at =
-    let e : at + 0 ≡ at = omega arith in
-    omega (arith, ap (λ (i : ℕ). getD s i 0) e)
-
--- four bytes that are there, and that are not
-pub word-there : (s : List ℕ) (at : ℕ) → at + 4 ≤ length s → wordAt s at ≡ value s at 4
-unfolding wordAt
-word-there s at h = rw (le-leb (at + 4) (length s) h)
-
-pub word-cut : (s : List ℕ) (at : ℕ) → length s < at + 4 → wordAt s at ≡ 0
-unfolding wordAt
-word-cut s at h = rw (lt-leb (at + 4) (length s) h)
 
 -- a format no more times; and once more, read to its end or refused
 pub times-none : (f : Format) (s : List ℕ) (at : ℕ) → Value 0 at ≡ read (times 0 f) s at

@@ -12,7 +12,7 @@ use Rattle.sheet.specs.declared.Sheet.{Sheet}
 use Rattle.sheet.specs.Formats.{read}
 use Rattle.sheet.specs.Sheets.{longest, nightSheet}
 use Rattle.sheet.specs.Answers.{refusedAt, acceptedAs, told, sheetOf}
-use Rattle.sheet.proofs.Reading.{value-one}
+use Rattle.words.proofs.Words.{value-one}
 
 module _ (s : List ℕ) where
   -- too long, whatever stands in it

@@ -9,7 +9,7 @@ use Rattle.hall.specs.declared.Hall.{Hall}
 use Rattle.hall.specs.Refusals.{most-retry}
 use Rattle.hall.specs.Halls.{valid, servers}
 use Rattle.ports.specs.Codes.{known, tableLength}
-use Rattle.sheet.specs.Formats.{value}
+use Rattle.words.specs.Words.{value}
 use Rattle.sheet.specs.Sheets.{longest}
 use Rattle.sheet.specs.Answers.{codesPlace, codeCountOf, hallOf, packetPlace}
 

@@ -11,7 +11,8 @@ use Rattle.hall.specs.Refusals.{bad-sheet}
 use Rattle.sheet.specs.declared.Field.{Field}
 use Rattle.sheet.specs.declared.Field.the-variants.{Value, Refused}
 use Rattle.sheet.specs.declared.Sheet.{Sheet}
-use Rattle.sheet.specs.Formats.{value, read}
+use Rattle.words.specs.Words.{value}
+use Rattle.sheet.specs.Formats.{read}
 use Rattle.sheet.specs.Sheets.{longest, nightSheet}
 
 -- the first bytes of n, k and b

@@ -5,7 +5,8 @@ use mathlib.Core.Bool.{Bool, true, false}
 use mathlib.Core.List.{List}
 use Prim.Native.Nat.{ℕ, _+_, _≤_, _<_}
 use lib.ListN.{length}
-use Rattle.sheet.specs.Formats.{Format, done, field, value}
+use Rattle.words.specs.Words.{value}
+use Rattle.sheet.specs.Formats.{Format, done, field}
 
 -- from format f at place a, every field up to format g at place p is whole and sound
 pub data Reached (s : List ℕ) : Format → ℕ → Format → ℕ → Type 0 where

@@ -1,11 +1,12 @@
 -- A format: fields in byte order, each with its width, the test that its value has to pass and the refusal's number where it does not.
 -- Section "The night sheet": "the first fault in byte order decides, with the offset of its field's first byte".
-use mathlib.Core.Bool.{Bool, true, false}
+use mathlib.Core.Bool.{Bool}
 use mathlib.Core.List.{List}
-use Prim.Native.Nat.{ℕ, zero, suc, _+_, _*_}
+use Prim.Native.Nat.{ℕ, _+_}
 use lib.Dec.{leb}
-use lib.ListN.{length, getD}
+use lib.ListN.{length}
 use Rattle.combine.specs.Tests.{pick}
+use Rattle.words.specs.Words.{value}
 use Rattle.hall.specs.Refusals.{bad-sheet}
 use Rattle.sheet.specs.declared.Field.{Field}
 use Rattle.sheet.specs.declared.Field.the-variants.{Value, Refused}
@@ -19,15 +20,6 @@ pub data Format : Type 0 where
 unfoldable pub and-then : Format → (ℕ → Format) → Format
 and-then (done v) next = next v
 and-then (field width sound number behind) next = field width sound number (λ v. and-then (behind v) next)
-
--- the big-endian number in so many bytes from a place on
-unfoldable pub value : List ℕ → ℕ → ℕ → ℕ
-value s at zero = 0
-value s at (suc width) = value s at width * 256 + getD s (at + width) 0
-
--- the number in four bytes; 0 where they are not there
-unfoldable pub wordAt : List ℕ → ℕ → ℕ
-wordAt s at = pick (leb (at + 4) (length s)) (value s at 4) 0
 
 -- a field that is not wholly there is a cut, told at the sheet's length; a whole one that is not sound is told at its first byte
 unfoldable pub read : Format → List ℕ → ℕ → Field

@@ -9,15 +9,15 @@ use borrow.Author.Tests.{le-leb}
 use Rattle.hall.specs.declared.Hall.{Hall}
 use Rattle.hall.specs.Halls.{servers}
 use Rattle.sheet.specs.declared.Sheet.{Sheet}
-use Rattle.sheet.specs.Formats.{Format, done, and-then, value}
+use Rattle.words.specs.Words.{value, Bytes, bytesOf}
+use Rattle.words.proofs.Words.{drop-bytes}
+use Rattle.sheet.specs.Formats.{Format, done, and-then}
 use Rattle.sheet.specs.Sheets.{any, codes, packet, packets, times, tablesOf, nightSheet}
 use Rattle.sheet.specs.Answers.{countPlace, codesPlace, codeCountOf, hallOf, acceptedAs, sheetOf, packetPlace}
 use Rattle.sheet.specs.Accepted.{packetCountOf, Accepted}
 use Rattle.sheet.proofs.Places.{count-place}
 use Rattle.sheet.proofs.Held.{accepted-read, accepted-holds, long, holds-accepted}
-use Rattle.laying.specs.Bytes.{Bytes, bytesOf}
 use Rattle.laying.specs.Filled.{laid, valuesIn}
-use Rattle.laying.proofs.Bytes.{drop-bytes}
 use Rattle.laying.proofs.Reading.{accepted-laid, values-then}
 use Rattle.sheetparts.specs.declared.SheetPacket.{SheetPacket}
 use Rattle.sheetparts.specs.Parts.{codesOf, packetPart, packetFields, packetAt}

@@ -7,9 +7,9 @@ use lib.ListN.{length, getD, take, drop}
 use borrow.Author.Tests.{le-leb, lt-leb, lt-ltb, le-ltb, eq-eqb, ne-eqb}
 use Rattle.hall.specs.Refusals.{bad-range}
 use Rattle.sheet.specs.declared.Sheet.{Sheet}
-use Rattle.sheet.specs.Formats.{value, wordAt}
+use Rattle.words.specs.Words.{value, wordAt}
+use Rattle.words.proofs.Words.{value-one, word-there}
 use Rattle.sheet.specs.Answers.{countPlace, codesPlace, codeCountOf, sheetOf, packetPlace}
-use Rattle.sheet.proofs.Reading.{value-one, word-there}
 use Rattle.sheet.proofs.Places.{codes-behind}
 use Rattle.sheetparts.specs.declared.SheetPacket.{SheetPacket}
 use Rattle.sheetparts.specs.Parts.{codesPart, codesOf, packetRefused, packetPart, packetFields, packetAt}

@@ -4,7 +4,7 @@ use mathlib.Core.List.{List, [], _++_}
 use Prim.Native.Nat.{ℕ, zero, suc}
 use lib.ListN.{length}
 use Rattle.sheet.specs.declared.Sheet.{Sheet}
-use Rattle.laying.specs.Bytes.{bytesOf}
+use Rattle.words.specs.Words.{bytesOf}
 use Rattle.sheetparts.specs.declared.SheetPacket.{SheetPacket}
 
 abbrev pub packetBytes : SheetPacket → List ℕ

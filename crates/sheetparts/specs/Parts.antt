@@ -6,7 +6,7 @@ use lib.Dec.{eqb, leb, ltb}
 use lib.ListN.{length, take, drop}
 use Rattle.combine.specs.Tests.{pick}
 use Rattle.hall.specs.Refusals.{bad-range}
-use Rattle.sheet.specs.Formats.{value}
+use Rattle.words.specs.Words.{value}
 use Rattle.sheet.specs.Answers.{codesPlace, codeCountOf, sheetOf, packetPlace}
 use Rattle.sheetparts.specs.declared.SheetPacket.{SheetPacket}
 

@@ -5,7 +5,8 @@ use mathlib.Core.List.{[]}
 use Rattle.hall.specs.Cells.{t}
 use Rattle.hall.specs.Halls.{nFits, kFits, bFits, servers}
 use Rattle.ports.specs.Codes.{known, tableLength}
-use Rattle.sheet.specs.Formats.{value, read, and-then}
+use Rattle.words.specs.Words.{value}
+use Rattle.sheet.specs.Formats.{read, and-then}
 use Rattle.sheet.specs.Sheets.{times, packet, tablesOf, nightSheet}
 use Rattle.sheet.specs.Answers.{countPlace, codesPlace, sheetOf, packetPlace}
 use Rattle.sheet.specs.Worked.{sheetWith}

@@ -4,7 +4,7 @@ ghost use Rattle.sheet.specs.Answers.{codesPlace};
 ghost use Rattle.sheetparts.specs.Parts.{codesPart, codesOf, packetRefused, packetFields, packetAt};
 use hall::refusals::BAD_RANGE;
 use sheet::read_sheet;
-use sheet::word_at;
+use words::word_at;
 
 // The bytes of a count, and those of the first section.
 const COUNT_BYTES: usize = 4;

@@ -1,3 +1,4 @@
 -- The laws.
 pub mod Rooms
 pub mod Words
+pub mod Bytes

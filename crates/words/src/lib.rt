@@ -3,8 +3,26 @@ ghost use mathlib.Core.Path.{_≡_};
 ghost use Prim.Native.Nat.{_+_, _≤_};
 ghost use lib.ListN.{length};
 ghost use lib.Seq.{sets};
-ghost use Rattle.words.specs.Words.{bigEndian, wordsBytes};
+ghost use Rattle.words.specs.Words.{bigEndian, wordsBytes, wordAt};
 ghost use Rattle.words.specs.Rooms.{roomOf};
+
+// The big-endian number in four bytes, from the place of the first; 0 where they are not there.
+pub fn word_at(bytes: &[u8], at: usize) -> u32
+    ensures { λ r. ⌜ r ≡ wordAt (now (bytes .entry)) at ⌝ }
+{
+    let length = bytes.len();
+    if length < at {
+        return 0;
+    }
+    if length - at < 4 {
+        return 0;
+    }
+    let a = bytes[at] as u32;
+    let b = bytes[at + 1] as u32;
+    let c = bytes[at + 2] as u32;
+    let d = bytes[at + 3] as u32;
+    ((a * 256 + b) * 256 + c) * 256 + d
+}
 
 // The four bytes of a word, at a place of a room that has it.
 fn put_word(room: &mut [u8], at: usize, word: u32)

@@ -3,7 +3,7 @@ use mathlib.Core.Path.{_≡_, sym, _∙_, ap}
 use Prim.Native.Nat.{ℕ, _+_, _*_, _≤_, _<_}
 use native.Mathlib.Omega.{arith}
 use lib.ListN.{length}
-use Rattle.sheet.proofs.Reading.{word-there}
+use Rattle.words.proofs.Words.{word-there}
 use Rattle.sheet.proofs.Places.{codes-behind}
 use Rattle.sheetparts.proofs.Parts.{count-read, packet-short, packet-there}
 use borrow.Author.Needs.{needs}

@@ -1,7 +1,8 @@
 -- `sheet::fields::read_byte` meets its contract: the byte is there or the sheet is cut.
 use mathlib.Core.Path.{sym}
 use native.Mathlib.Omega.{arith}
-use Rattle.sheet.proofs.Reading.{any-cut, any-there, value-one}
+use Rattle.words.proofs.Words.{value-one}
+use Rattle.sheet.proofs.Reading.{any-cut, any-there}
 use borrow.Author.Needs.{needs}
 use Rattle.sheet.proofs.fields.read_byte.Statement.{statement}
 use Rattle.sheet.proofs.fields.read_byte.Tie as tie

@@ -12,7 +12,8 @@ use Rattle.ports.specs.Codes.{known}
 use Rattle.sheet.specs.declared.Field.the-variants.{Value, Refused}
 use Rattle.sheet.specs.Formats.{done, read}
 use Rattle.sheet.specs.Sheets.{code}
-use Rattle.sheet.proofs.Reading.{read-done, read-sound, read-wrong, read-cut, value-one}
+use Rattle.words.proofs.Words.{value-one}
+use Rattle.sheet.proofs.Reading.{read-done, read-sound, read-wrong, read-cut}
 use Rattle.sheet.proofs.fields.read_code.Statement.{statement}
 use Rattle.sheet.proofs.fields.read_code.Tie as tie
 

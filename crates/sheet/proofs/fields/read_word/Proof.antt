@@ -1,7 +1,8 @@
 -- `sheet::fields::read_word` meets its contract: the four bytes are there or the sheet is cut.
 use mathlib.Core.Path.{sym, _∙_}
 use native.Mathlib.Omega.{arith}
-use Rattle.sheet.proofs.Reading.{any-cut, any-there, word-there}
+use Rattle.words.proofs.Words.{word-there}
+use Rattle.sheet.proofs.Reading.{any-cut, any-there}
 use borrow.Author.Needs.{needs}
 use Rattle.sheet.proofs.fields.read_word.Statement.{statement}
 use Rattle.sheet.proofs.fields.read_word.Tie as tie

@@ -1,28 +1,13 @@
--- A number and its bytes: what is read of them, and what stands behind them.
+-- A number and its bytes: how many there are, and that the number is read from them wherever they stand.
 use mathlib.Core.Path.{_≡_, refl, sym, _∙_, ap}
 use mathlib.Core.List.{List, [], _∷_, _++_}
-use Prim.Native.Nat.{ℕ, zero, suc, _+_, _^_, _/_, _%_, _≤_, _<_}
+use Prim.Native.Nat.{ℕ, zero, suc, _+_, _^_, _/_, _%_, _<_}
 use native.Mathlib.Nat.{div-add-mod', div-lt-iff-lt-mul, pow-suc}
 use native.Mathlib.Omega.{arith}
-use lib.Arith.{digits-div, digits-mod, digits-lt}
-use lib.ListN.{length, getD, take, drop, take-append-drop, length-append, length-drop}
-use lib.Seq.{take-suc, append-snoc, getD-at, getD-drop, drop-at, drop-drop}
-use Rattle.sheet.specs.Formats.{value}
-use Rattle.laying.specs.Bytes.{Bytes, bytesOf}
-
-module _ (s : List ℕ) (b : Bytes s) where
-  -- a field's bytes are those of its value
-  bytes-there : (width at : ℕ) → at + width ≤ length s → take width (drop at s) ≡ bytesOf width (value s at width)
-  unfolding bytesOf value
-  bytes-there zero at h = refl
-  bytes-there (suc width) at h =
-      let l = b .below (at + width) in
-      take-suc (drop at s) width 0 (omega (arith, length-drop at s))
-      ∙ rw (getD-drop at s width 0, digits-div (value s at width) l, digits-mod (value s at width) l, bytes-there width at (omega arith))
-
-  pub drop-bytes : (width at : ℕ) → at + width ≤ length s → drop at s ≡ bytesOf width (value s at width) ++ drop (at + width) s
-  drop-bytes width at h =
-      sym (take-append-drop width (drop at s)) ∙ rw (bytes-there width at h, drop-drop width at s)
+use lib.Arith.{digits-lt}
+use lib.ListN.{length, getD, drop, length-append}
+use lib.Seq.{append-snoc, getD-at, getD-drop, drop-at, drop-drop}
+use Rattle.words.specs.Words.{Bytes, bytesOf, value}
 
 pub bytes-long : (width v : ℕ) → length (bytesOf width v) ≡ width
 unfolding bytesOf

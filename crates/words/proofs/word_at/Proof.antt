@@ -1,17 +1,17 @@
--- `sheet::word_at` meets its contract: the four bytes are there, each below 256, and make the number; or one of them is not.
+-- `words::word_at` meets its contract: the four bytes are there, each below 256, and make the number; or one of them is not.
 use Prim.Native.Nat.{_+_}
 use native.Mathlib.Omega.{arith}
 use mathlib.Core.Path.{sym, _∙_}
-use Rattle.sheet.proofs.Reading.{value-four, word-there, word-cut}
+use Rattle.words.proofs.Words.{value-four, word-there, word-cut}
 use borrow.Author.Needs.{needs}
-use Rattle.sheet.proofs.word_at.Statement.{statement}
-use Rattle.sheet.proofs.word_at.Tie as tie
+use Rattle.words.proofs.word_at.Statement.{statement}
+use Rattle.words.proofs.word_at.Tie as tie
 
 returns : tie.Need-returns
-returns c = sym (word-cut (c .before .args .sheet .now) (c .before .args .at) (omega arith))
+returns c = sym (word-cut (c .before .args .bytes .now) (c .before .args .at) (omega arith))
 
 returns-2 : tie.Need-returns-2
-returns-2 c = sym (word-cut (c .before .before .args .sheet .now) (c .before .before .args .at) (omega arith))
+returns-2 c = sym (word-cut (c .before .before .args .bytes .now) (c .before .before .args .at) (omega arith))
 
 shared-slice-read-a : tie.Need-shared-slice-read-a
 shared-slice-read-a c = search needs
@@ -85,7 +85,7 @@ add-result-3 c =
 returns-3 : tie.Need-returns-3
 returns-3 c =
     let a = c .before .before .before .before .before .before .args in
-    sym (word-there (a .sheet .now) (a .at) (omega arith) ∙ value-four (a .sheet .now) (a .at))
+    sym (word-there (a .bytes .now) (a .at) (omega arith) ∙ value-four (a .bytes .now) (a .at))
 
 pub word-at-spec : {M : Type 1} → statement M
 word-at-spec =
