@@ -50,14 +50,6 @@ fn switches(h: Hall) -> u32
     h.n + 1
 }
 
-// t(b), the servers of a DCell(b).
-fn cell_size(h: Hall) -> u32
-    requires { ⌜ valid h ≡ true ⌝ }
-    ensures { λ r. ⌜ r ≡ cellSize h ⌝ }
-{
-    switches(h) * h.n
-}
-
 // The refusal for a hall of so many servers, the table of a DCell(b) and a uid, 0 for none.
 fn refused_among(h: Hall, size: u32, table: &[u8], uid: u32) -> u32
     requires { ⌜ size ≡ pick (valid h) (servers h) 0 ⌝ }
@@ -66,7 +58,7 @@ fn refused_among(h: Hall, size: u32, table: &[u8], uid: u32) -> u32
     if size == 0 {
         return BAD_HALL;
     }
-    let bytes = (cell_size(h) as usize) * ((h.k as usize) + 1);
+    let bytes = (hall::size_of(h, h.b) as usize) * ((h.k as usize) + 1);
     if table.len() != bytes {
         return BAD_LENGTH;
     }
@@ -224,7 +216,7 @@ fn distances_from(h: Hall, table: &[u8], o: u32) -> [u8; 72]
     requires { ⌜ (valid h ≡ true) × (o < cellSize h) ⌝ }
     ensures { λ r. ⌜ r ≡ recordFrom h (now (table .entry)) o ⌝ }
 {
-    let count = cell_size(h);
+    let count = hall::size_of(h, h.b);
     let mut d = unreached();
     let at = o as usize;
     d[at] = 0;
@@ -251,7 +243,7 @@ pub fn distances_of(h: Hall, uid: u32, table: &[u8]) -> Distances
             distance: untold(),
         };
     }
-    let count = cell_size(h);
+    let count = hall::size_of(h, h.b);
     Distances {
         refusal: 0,
         origin: uid,
@@ -350,7 +342,7 @@ fn searched_hop(h: Hall, table: &[u8], x: u32, y: u32) -> u32
     requires { ⌜ (valid h ≡ true) × (x < cellSize h) × (y < cellSize h) × (x ≡ y → ⊥) × (linked h (now table) x y ≡ false) × (h .b ≡ 0 → ⊥) ⌝ }
     ensures { λ o. ⌜ o ≡ hop h (now (table .entry)) x y ⌝ }
 {
-    let count = cell_size(h);
+    let count = hall::size_of(h, h.b);
     let mut d = unreached();
     let at = y as usize;
     d[at] = 0;
@@ -380,7 +372,7 @@ fn hop_place(h: Hall, table: &[u8], x: u32, y: u32) -> u32
         return h.n;
     }
     if x == y {
-        return cell_size(h);
+        return hall::size_of(h, h.b);
     }
     searched_hop(h, table, x, y)
 }
@@ -412,7 +404,7 @@ pub fn next_hop(h: Hall, uid: u32, target: u32, table: &[u8]) -> NextHop
             uid: 0,
         };
     }
-    let count = cell_size(h);
+    let count = hall::size_of(h, h.b);
     let cell = uid / count;
     if target / count != cell {
         return NextHop {

@@ -4,7 +4,7 @@ use mathlib.Core.Path.{sym, _∙_}
 use mathlib.Core.Logic.{inl}
 use borrow.Author.Needs.{needs}
 use Rattle.hall.proofs.Growth.{valid-known}
-use Rattle.local.proofs.Sizes.{size-switch}
+use Rattle.local.proofs.Sizes.{cell-size, size-switch}
 use Rattle.local.proofs.Hops.{hop-none}
 use Rattle.local.proofs.Direct.{hop-direct, hop-lone}
 use Rattle.local.proofs.hop_place.Statement.{statement}
@@ -25,13 +25,13 @@ returns-2 c =
     sym (hop-lone (s .args .h) (s .args .table .now) (valid-known (s .args .h) (s .pre .0)) (s .args .x) (s .args .y) (s .pre .1) (s .pre .2) (c .if2 .taken)
     (sym (c .before .before .before .is-linked .ensures) ∙ c .before .before .if1 .left) ∙ size-switch (s .args .h) (c .if2 .taken))
 
-cell-size-requires : tie.Need-cell-size-requires
-cell-size-requires c κs = search needs
+size-of-requires : tie.Need-size-of-requires
+size-of-requires c κs = search needs
 
 returns-3 : tie.Need-returns-3
 returns-3 c =
     let s = c .before .before .before .before .before .before .before in
-    c .cell-size .ensures
+    cell-size _ _ (s .pre .0) (c .size-of .ensures)
     ∙ sym (hop-none (s .args .h) (s .args .table .now) (valid-known (s .args .h) (s .pre .0)) (s .args .x) (s .args .y) (s .pre .1) (s .pre .2) (inl (c .before .if3 .taken)))
 
 searched-hop-requires : tie.Need-searched-hop-requires
@@ -44,4 +44,4 @@ returns-4 c = search needs
 
 pub hop-place-spec : {M : Type 1} → statement M
 hop-place-spec =
-    tie.close (tie.spec is-linked-requires returns returns-2 cell-size-requires returns-3 searched-hop-requires returns-4)
+    tie.close (tie.spec is-linked-requires returns returns-2 size-of-requires returns-3 searched-hop-requires returns-4)
