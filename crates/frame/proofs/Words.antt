@@ -3,15 +3,16 @@ use mathlib.Core.Path.{_≡_, refl, _∙_, ap, sym}
 use mathlib.Core.List.{List, [], _∷_, _++_, append-assoc}
 use Prim.Native.Nat.{ℕ, zero, suc, _+_, _*_, _/_, _%_, _≤_, _<_}
 use native.Mathlib.Nat.{add-zero, mod-eq-of-lt}
-use native.Mathlib.Numerals.{add-one}
 use native.Mathlib.Omega.{arith}
 use lib.Arith.{mod-mul}
 use lib.Dec.{eqb}
 use lib.ListN.{length, getD, take, drop, length-append, length-drop, List·getD-append}
-use lib.Seq.{sets, sets-eq, getD-append-add, take-at, take-add, drop-cons, drop-append-add, drop-drop}
+use lib.Seq.{getD-append-add, take-add, take-suc, drop-cons}
 use borrow.Author.Tests.{eqb-true, eqb-false}
 use Rattle.combine.proofs.Tests.{cases}
-use Rattle.frame.specs.Layout.{wordAt, bigEndian, bytesOf}
+use Rattle.words.specs.Words.{bigEndian, wordsBytes}
+use Rattle.words.proofs.Words.{words-last}
+use Rattle.frame.specs.Layout.{wordAt, bytesOf}
 
 -- a word is what its four bytes make
 pub word-split : (word : ℕ) → word < 4294967296
@@ -50,28 +51,10 @@ unfolding bytesOf
 bytes-length words zero = refl
 bytes-length words (suc n) = omega (arith, length-append (bytesOf words n) (bigEndian (words n)), bytes-length words n)
 
-pub bytes-none : (words : ℕ → ℕ) (room : List ℕ) → room ≡ bytesOf words 0 ++ drop 0 room
-unfolding bytesOf
-bytes-none words room = refl
-
 pub bytes-cong : (words other : ℕ → ℕ) (n : ℕ) → ((i : ℕ) → i < n → words i ≡ other i) → bytesOf words n ≡ bytesOf other n
 unfolding bytesOf
 bytes-cong words other zero e = refl
 bytes-cong words other (suc n) e = rw (bytes-cong words other n (λ i h. e i (omega arith)), e n (omega arith))
-
--- word i written behind those before it
-pub bytes-more : (words : ℕ → ℕ) (room : List ℕ) (i : ℕ) → 4 * i + 4 ≤ length room
-    → sets (bytesOf words i ++ drop (4 * i) room) (4 * i) (bigEndian (words i)) ≡ bytesOf words (i + 1) ++ drop (4 * (i + 1)) room
-unfolding bytesOf
-bytes-more words room i h =
-    let p : List ℕ = bytesOf words i in
-    let l : length (bytesOf words i) ≡ 4 * i = bytes-length words i in
-    let n : 4 * i + 4 ≡ 4 * (i + 1) = omega arith in
-    let e : drop (4 * i + 4) (bytesOf words i ++ drop (4 * i) room) ≡ drop (4 * (i + 1)) room =
-    ap (λ (n : ℕ). drop (n + 4) (bytesOf words i ++ drop (4 * i) room)) (sym l)
-    ∙ (drop-append-add (bytesOf words i) (drop (4 * i) room) 4 ∙ (drop-drop 4 (4 * i) room ∙ ap (λ (n : ℕ). drop n room) n)) in
-    sets-eq (bigEndian (words i)) (p ++ drop (4 * i) room) (4 * i) (omega (arith, length-append p (drop (4 * i) room), length-drop (4 * i) room))
-    ∙ rw (take-at p (drop (4 * i) room) (4 * i) l, e, add-one i)
 
 -- what stands k behind a first list of length n
 behind : (front back : List ℕ) (n k : ℕ) → length front ≡ n → getD (front ++ back) (n + k) 0 ≡ getD back k 0
@@ -152,3 +135,10 @@ word-before frame padding i h =
       List·getD-append frame padding 0 (4 * i + 2) (omega arith),
       List·getD-append frame padding 0 (4 * i + 3) (omega arith),
     )
+
+-- the first n words of a list
+pub bytes-taken : (words : List ℕ) (n : ℕ) → n ≤ length words → wordsBytes (take n words) ≡ bytesOf (λ i. getD words i 0) n
+unfolding bytesOf wordsBytes
+bytes-taken words zero h = refl
+bytes-taken words (suc n) h =
+    rw (take-suc words n 0 (omega arith), words-last (take n words) (getD words n 0), bytes-taken words n (omega arith))

@@ -7,6 +7,7 @@ use lib.Dec.{eqb}
 use lib.ListN.{length, getD}
 use Rattle.combine.specs.Tests.{pick}
 use Rattle.rows.specs.Rows.{Row, valueBy, offsetIn}
+use Rattle.words.specs.Words.{bigEndian}
 
 -- the fields by name, numbered in the layout's order
 abbrev pub version : ℕ
@@ -92,10 +93,6 @@ unfoldable pub wordAt : List ℕ → ℕ → ℕ
 wordAt bytes i =
     getD bytes (4 * i) 0 * 16777216 + getD bytes (4 * i + 1) 0 * 65536 + getD bytes (4 * i + 2) 0 * 256
     + getD bytes (4 * i + 3) 0
-
--- the four bytes of a word
-abbrev pub bigEndian : ℕ → List ℕ
-bigEndian word = word / 16777216 % 256 ∷ word / 65536 % 256 ∷ word / 256 % 256 ∷ word % 256 ∷ []
 
 -- the bytes of the first n words
 unfoldable pub bytesOf : (ℕ → ℕ) → ℕ → List ℕ

@@ -62,7 +62,7 @@ unfolding wordsBytes
 words-length [] = refl
 words-length (w ∷ ws) = omega (arith, words-length ws)
 
-words-last : (ws : List ℕ) (w : ℕ) → wordsBytes (ws ++ (w ∷ [])) ≡ wordsBytes ws ++ bigEndian w
+pub words-last : (ws : List ℕ) (w : ℕ) → wordsBytes (ws ++ (w ∷ [])) ≡ wordsBytes ws ++ bigEndian w
 unfolding wordsBytes
 words-last [] w = refl
 words-last (x ∷ ws) w = ap (λ (l : List ℕ). bigEndian x ++ l) (words-last ws w)
