@@ -113,7 +113,7 @@ accepted-holds s ok =
     record { short = r .0; first = w .first; hall = w .hall; second = t .second; codes = t .codes; packets = t .packets; whole = t .ends }
 
 -- the hall's fields where it is valid
-hall-fields : (h : Hall) → valid h ≡ true → (nFits (h .n) ≡ true) × (kFits (h .n) (h .k) ≡ true) × (bFits (h .k) (h .b) ≡ true)
+pub hall-fields : (h : Hall) → valid h ≡ true → (nFits (h .n) ≡ true) × (kFits (h .n) (h .k) ≡ true) × (bFits (h .k) (h .b) ≡ true)
 unfolding valid
 hall-fields h e =
     let rest = both-right (nFits (h .n)) (both (kFits (h .n) (h .k)) (bFits (h .k) (h .b))) e in (

@@ -81,7 +81,7 @@ module _ (s : List ℕ) (b : Bytes s) where
   sheet-values = refl
 
   -- so it is the sections one behind the other
-  encoded : (codes : List ℕ) (packet : ℕ → SheetPacket) → sheetOf s .refusal ≡ 0
+  pub encoded : (codes : List ℕ) (packet : ℕ → SheetPacket) → sheetOf s .refusal ≡ 0
       → codes ≡ take (codeCountOf s) (drop (codesPlace s) s) → ((i : ℕ) → i < packetCountOf s → packet i ≡ packetFields s i)
       → s ≡ encodingOf (acceptedAs (hallOf s) (packetCountOf s)) codes packet
   unfolding encodingOf codesPlace packetPlace packetCountOf
