@@ -15,7 +15,7 @@ use borrow.Author.Tests.{eqb-true, ltb-true, ltb-false, lt-ltb, le-ltb, leb-true
 use Rattle.combine.specs.Tests.{pick, both, either, anyBelow}
 use Rattle.combine.proofs.Tests.{cases, never, both-ways, both-left, both-right, any-in, any-some}
 use Rattle.hall.specs.declared.Hall.{Hall}
-use Rattle.hall.specs.Cells.{t, cell, same, neighbour}
+use Rattle.hall.specs.Cells.{t, cell, neighbour}
 use Rattle.hall.proofs.Cells.{same-mono, neighbour-stays}
 use Rattle.hall.proofs.Place.{sub-below}
 use Rattle.hall.proofs.Growth.{t-more, t-up}

@@ -1,7 +1,7 @@
 -- What the calls refuse, and what is known where nothing is refused: by the laws of asks that stand in the order of refusals.
 use mathlib.Core.Path.{_≡_, refl, sym, _∙_}
 use mathlib.Core.Bool.{true, false, not}
-use mathlib.Core.List.{List, [], _∷_}
+use mathlib.Core.List.{[], _∷_}
 use Prim.Native.Nat.{ℕ, _<_, _≤_}
 use lib.Dec.{eqb, leb, ltb}
 use borrow.Author.Tests.{eq-eqb, ne-eqb, eqb-false, not-true, ltb-true, leb-true, le-leb, lt-leb}

@@ -1,5 +1,5 @@
 -- Laws of lists by their elements: the list that a loop has filled up to a place, with the old list behind it.
-use mathlib.Core.Path.{_≡_, refl, _∙_, ap, sym}
+use mathlib.Core.Path.{_≡_, refl, _∙_, sym}
 use mathlib.Core.List.{List, [], _∷_, _++_, append-nil}
 use mathlib.Core.Logic.{⊎-elim}
 use Prim.Native.Nat.{ℕ, zero, suc, _+_, _-_, _≤_, _<_}
@@ -7,7 +7,7 @@ use native.Mathlib.Nat.{eq-or-lt-of-le}
 use native.Mathlib.Numerals.{add-one}
 use native.Mathlib.Omega.{arith}
 use lib.ListN.{length, getD, drop, set, replicate, length-append, length-drop, length-replicate, getD-replicate, drop-of-length-le, List·getD-append}
-use lib.Seq.{set-at, drop-cons, append-snoc, getD-at, getD-drop, ext-getD}
+use lib.Seq.{set-at, drop-cons, append-snoc, getD-at}
 use Rattle.combine.specs.Lists.{upTo}
 
 pub length-upTo : (f : ℕ → ℕ) (n : ℕ) → length (upTo f n) ≡ n

@@ -1,10 +1,9 @@
 -- A route that is answered has fewer links than the longest has servers, refused or not, so its uids are a part of the answer's array.
-use mathlib.Core.Path.{refl, sym, _∙_}
-use mathlib.Core.List.{List, [], _∷_}
-use Prim.Native.Nat.{ℕ, _+_, _-_, _<_, _≤_}
+use mathlib.Core.Path.{refl}
+use mathlib.Core.List.{[], _∷_}
+use Prim.Native.Nat.{ℕ, _-_, _<_}
 use native.Mathlib.Omega.{arith}
 use lib.Dec.{eqb}
-use lib.ListN.{length}
 use borrow.Author.Tests.{eqb-true, ltb-true}
 use Rattle.combine.proofs.Tests.{cases}
 use Rattle.hall.specs.declared.Hall.{Hall}
@@ -12,7 +11,7 @@ use Rattle.hall.specs.Refusals.{refusal}
 use Rattle.hall.specs.Halls.{servers, asksHall, asksUid}
 use Rattle.hall.proofs.Asks.{unrefused-hold}
 use Rattle.hall.proofs.Growth.{valid-known}
-use Rattle.route.specs.Answers.{longest, inHall, routeBetween}
+use Rattle.route.specs.Answers.{longest, routeBetween}
 use Rattle.route.proofs.Answers.{in-hall-length}
 
 pub route-short : (h : Hall) (x y : ℕ) → routeBetween h x y .links < longest

@@ -1,7 +1,7 @@
 -- Each answer that the driver is told: a refusal's number, and its other values in order as bytes.
 -- Sections "Frame header", "Route without failures" and "One forwarding step".
-use mathlib.Core.Bool.{Bool, true, false, not}
-use mathlib.Core.List.{List, [], _∷_}
+use mathlib.Core.Bool.{Bool, not}
+use mathlib.Core.List.{[], _∷_}
 use Prim.Native.Nat.{ℕ, _+_}
 use lib.ListN.{take}
 use lib.Dec.{eqb}

@@ -23,7 +23,6 @@ use Rattle.local.specs.Answers.{noHop, hopAt, nextHopOf}
 use Rattle.local.proofs.Sizes.{place-fits}
 use Rattle.local.proofs.Uids.{place-one}
 use Rattle.local.proofs.Hops as hops
-use Rattle.forward.specs.declared.Way.{Way}
 use Rattle.forward.specs.declared.Way.the-variants.{To, Unreached}
 use Rattle.forward.specs.Seen.{seen}
 use Rattle.forward.specs.Inside.{Target, Ahead, wayTo}

@@ -1,6 +1,6 @@
 -- What the calls for a step and a journey answer.
 -- Sections "One forwarding step" and "Refusal numbers".
-use mathlib.Core.Bool.{Bool, true, false, not}
+use mathlib.Core.Bool.{not}
 use mathlib.Core.List.{List, [], _∷_, _++_}
 use Prim.Native.Nat.{ℕ, _-_}
 use lib.Dec.{leb, ltb}

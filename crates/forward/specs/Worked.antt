@@ -1,7 +1,6 @@
 -- Worked steps, computed from the definitions: n = 4, k = 1, b = 0, at server 0. The bench's journeys stand in the table of `promises`.
 -- Section "One forwarding step".
 use mathlib.Core.Path.{_≡_, refl}
-use mathlib.Core.Bool.{true}
 use mathlib.Core.List.{List, [], _∷_}
 use Prim.Native.Nat.{ℕ}
 use Rattle.combine.specs.Tests.{anyBelow}

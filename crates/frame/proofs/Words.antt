@@ -6,7 +6,7 @@ use native.Mathlib.Nat.{add-zero, mod-eq-of-lt}
 use native.Mathlib.Omega.{arith}
 use lib.Arith.{mod-mul}
 use lib.Dec.{eqb}
-use lib.ListN.{length, getD, take, drop, length-append, length-drop, List·getD-append}
+use lib.ListN.{length, getD, take, drop, length-append, List·getD-append}
 use lib.Seq.{getD-append-add, take-add, take-suc, drop-cons}
 use borrow.Author.Tests.{eqb-true, eqb-false}
 use Rattle.combine.proofs.Tests.{cases}

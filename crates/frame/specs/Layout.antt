@@ -1,6 +1,6 @@
 -- The header's layout: rows of 32 bits cut into fields, the one description that reading and writing both go by.
 -- Section "Frame header", and figure 10 of the paper.
-use Prim.Native.Nat.{ℕ, zero, suc, _+_, _*_, _/_, _%_}
+use Prim.Native.Nat.{ℕ, zero, suc, _+_, _*_, _%_}
 use mathlib.Core.Bool.{Bool, true}
 use mathlib.Core.List.{List, [], _∷_, _++_}
 use lib.Dec.{eqb}

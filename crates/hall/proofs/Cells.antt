@@ -1,7 +1,7 @@
 -- Laws of cells, links and neighbours, over the level: a cell is the digits of a uid above its level, and a link's two ends
 -- are one definition with the sub-cells exchanged.
 use mathlib.Core.Path.{_≡_, refl, sym, _∙_, ap}
-use mathlib.Core.Bool.{Bool, true, false, true≢false}
+use mathlib.Core.Bool.{true, false, true≢false}
 use Prim.Native.Nat.{ℕ, zero, suc, _+_, _-_, _*_, _/_, _%_, _<_, _≤_}
 use native.Mathlib.Nat.{mod-lt, add-zero, add-suc}
 use native.Mathlib.Omega.{arith}
@@ -10,8 +10,8 @@ use lib.Arith.{digits-div, digits-mod}
 use borrow.Author.Tests.{eqb-true, eq-eqb}
 use Rattle.hall.specs.Cells.{t, cell, same, sub, port, end, near, far, neighbour}
 use Rattle.combine.specs.Tests.{pick}
-use Rattle.combine.proofs.Tests.{cases, never}
-use Rattle.hall.proofs.Place.{sub-below, made, cell-of, inside-of, place-cell, place-inside, place-up, place-sub, port-fits, port-lt, port-ge, turn, leads}
+use Rattle.combine.proofs.Tests.{cases}
+use Rattle.hall.proofs.Place.{sub-below, made, cell-of, inside-of, place-cell, place-inside, place-up, place-sub, port-fits, turn, leads}
 
 -- the two ends of the link between the sub-cells of x and y, where x and y are in one DCell of level suc j and in two of level j
 pub record Crossing (n j x y : ℕ) : Type 0 where

@@ -1,7 +1,7 @@
 -- Laws of sizes: t is positive and grows with n and with the level, so the largest hall bounds every other; what a valid hall is, and the sizes
 -- that a call works out once.
-use mathlib.Core.Path.{_≡_, refl, sym, _∙_, ap}
-use mathlib.Core.Bool.{Bool, true, false}
+use mathlib.Core.Path.{_≡_, _∙_, ap}
+use mathlib.Core.Bool.{true, false}
 use mathlib.Core.List.{List}
 use Prim.Native.Nat.{ℕ, zero, suc, min, _+_, _-_, _*_, _<_, _≤_}
 use native.Mathlib.Nat.{le-trans, mul-le-mul}

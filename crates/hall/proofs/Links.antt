@@ -1,14 +1,14 @@
 -- Laws of links in a hall: who shares its top cell is in it, and the rule of links, word for word, is the neighbour's definition.
 use mathlib.Core.Path.{_≡_, refl, sym, _∙_, ap}
 use mathlib.Core.Logic.{_↔_}
-use mathlib.Core.Bool.{Bool, true, false}
-use Prim.Native.Nat.{ℕ, zero, suc, _+_, _-_, _*_, _/_, _%_, _<_, _≤_}
+use mathlib.Core.Bool.{true}
+use Prim.Native.Nat.{ℕ, suc, _+_, _-_, _*_, _/_, _%_, _<_}
 use native.Mathlib.Nat.{div-eq-of-lt, div-lt-iff-lt-mul}
 use native.Mathlib.Omega.{arith}
 use lib.Dec.{ltb}
 use borrow.Author.Tests.{ltb-true, ltb-false}
 use Rattle.combine.proofs.Tests.{cases, never}
-use Rattle.hall.specs.Cells.{t, cell, same, sub, port, end, neighbour, Rule, Linked, up, down}
+use Rattle.hall.specs.Cells.{t, cell, same, sub, port, end, neighbour, Linked, up, down}
 use Rattle.hall.proofs.Place.{port-lt, port-ge, made, inside-of}
 use Rattle.hall.proofs.Cells.{same-eq, eq-same, same-refl, same-sym, same-mono, sub-same, sub-fits, end-cells, end-up, end-inside, end-sub, end-neighbour, t-pos, is-end, neighbour-end, neighbour-stays, neighbour-leaves, neighbour-neighbour}
 

@@ -1,7 +1,6 @@
 -- Arithmetic of a place in a cell of T + 1 sub-cells of T servers each: server r of sub-cell p of cell c is
 -- c * ((T + 1) * T) + (p * T + r), and its cell, sub-cell and place are read off as digits. Nothing here knows of levels.
-use mathlib.Core.Path.{_≡_, refl, sym, _∙_, ap}
-use mathlib.Core.Bool.{Bool, true, false}
+use mathlib.Core.Path.{_≡_, sym, _∙_, ap}
 use Prim.Native.Nat.{ℕ, zero, suc, _+_, _-_, _*_, _/_, _%_, _<_, _≤_}
 use native.Mathlib.Nat.{mod-lt, div-add-mod', div-lt-iff-lt-mul, div-zero}
 use native.Mathlib.Omega.{arith}

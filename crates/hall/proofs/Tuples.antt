@@ -1,22 +1,19 @@
 -- Laws of tuples: entries are the digits of a uid, so uid and tuple are inverse both ways, and a cell is what the entries above its level
 -- agree on.
 use mathlib.Core.Path.{_≡_, refl, sym, _∙_, ap}
-use mathlib.Core.Bool.{Bool, true, false}
+use mathlib.Core.Bool.{true}
 use mathlib.Core.List.{List}
 use mathlib.Core.Logic.{_↔_, ⊎-elim}
-use Prim.Native.Nat.{ℕ, zero, suc, _+_, _-_, _*_, _/_, _%_, _<_, _≤_}
+use Prim.Native.Nat.{ℕ, zero, suc, _+_, _-_, _*_, _%_, _<_, _≤_}
 use native.Mathlib.Nat.{mod-lt, mod-eq-of-lt, div-add-mod', mul-le-mul-right, eq-or-lt-of-le}
-use native.Mathlib.Numerals.{add-one}
 use native.Mathlib.Omega.{arith}
-use lib.Dec.{eqb, leb, ltb}
+use lib.Dec.{leb}
 use lib.ListN.{getD}
 use lib.Arith.{digits-mod}
-use borrow.Author.Tests.{ltb-true, lt-ltb, le-leb, lt-leb, leb-true, leb-false, eqb-true, eq-eqb}
-use Rattle.combine.specs.Tests.{pick, allBelow}
-use Rattle.combine.specs.Lists.{upTo}
+use borrow.Author.Tests.{ltb-true, lt-ltb, le-leb, lt-leb, leb-true, leb-false, eqb-true}
 use Rattle.combine.proofs.Tests.{cases, all-each, each-all}
 use Rattle.combine.proofs.Lists.{getD-upTo}
-use Rattle.hall.specs.Cells.{t, g, cell, same, sub}
+use Rattle.hall.specs.Cells.{t, g, same, sub}
 use Rattle.hall.specs.Halls.{places}
 use Rattle.hall.specs.Tuples.{entry, limit, uidUpTo, entryFits, tupleFits, entryAt, tuple}
 use Rattle.hall.proofs.Place.{inside-of, place-sub}

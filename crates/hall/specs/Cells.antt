@@ -1,8 +1,8 @@
 -- Sizes, cells, sub-cells, links and neighbours, over the level; n is the number of servers on a mini-switch.
 -- Section "The hall and its numbers".
 use mathlib.Core.Path.{_≡_}
-use mathlib.Core.Bool.{Bool, true, false}
-use Prim.Native.Nat.{ℕ, zero, suc, _+_, _-_, _*_, _/_, _%_, _<_, _≤_}
+use mathlib.Core.Bool.{Bool, true}
+use Prim.Native.Nat.{ℕ, zero, suc, _+_, _-_, _*_, _/_, _%_, _<_}
 use lib.Dec.{eqb, leb, ltb}
 use Rattle.combine.specs.Tests.{pick}
 

@@ -1,8 +1,8 @@
 -- Which halls there are, and what a call asks of a hall and a uid.
 -- Section "The hall and its numbers".
-use mathlib.Core.Bool.{Bool, true, false}
+use mathlib.Core.Bool.{Bool}
 use Prim.Native.Nat.{ℕ, min, _+_, _≤_}
-use lib.Dec.{eqb, leb, ltb}
+use lib.Dec.{leb, ltb}
 use Rattle.combine.specs.Tests.{both}
 use Rattle.hall.specs.declared.Hall.{Hall}
 use Rattle.hall.specs.Refusals.{Ask, bad-hall, bad-uid, bad-range}

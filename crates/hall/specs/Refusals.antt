@@ -1,7 +1,7 @@
 -- The refusal numbers, and the order in which a call gives them.
 -- Section "Refusal numbers".
 use Prim.Native.Nat.{ℕ}
-use mathlib.Core.Bool.{Bool, true, false, not}
+use mathlib.Core.Bool.{Bool, false, not}
 use mathlib.Core.List.{List, [], _∷_}
 use lib.Dec.{eqb}
 use Rattle.combine.specs.Tests.{pick, both, either}

@@ -1,6 +1,5 @@
 -- An answer told through lent room: the refusal is returned, and the answer's words stand at the room's start where nothing is refused.
 -- Section "Refusal numbers".
-use mathlib.Core.Bool.{Bool, true, false}
 use mathlib.Core.List.{List, _++_}
 use Prim.Native.Nat.{ℕ}
 use lib.Dec.{eqb, ltb}

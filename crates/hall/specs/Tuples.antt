@@ -1,6 +1,6 @@
 -- A server as a tuple, and the uid of a tuple; place i of a tuple holds a(i).
 -- Section "The hall and its numbers".
-use mathlib.Core.Bool.{Bool, true, false}
+use mathlib.Core.Bool.{Bool}
 use mathlib.Core.List.{List}
 use Prim.Native.Nat.{ℕ, zero, suc, _+_, _*_, _%_}
 use lib.Dec.{eqb, leb, ltb}

@@ -1,8 +1,7 @@
 -- Laws of a packet's line: what it is refused for, and what it then answers.
-use mathlib.Core.Path.{_≡_, refl, sym}
+use mathlib.Core.Path.{_≡_, refl}
 use mathlib.Core.List.{List}
 use Prim.Native.Nat.{ℕ, _≤_, _<_}
-use lib.Dec.{eqb, ltb}
 use borrow.Author.Tests.{eq-eqb, ne-eqb, le-ltb, lt-ltb}
 use Rattle.hall.specs.Refusals.{bad-range}
 use Rattle.forward.specs.declared.Journey.{Journey}

@@ -1,6 +1,5 @@
 -- The trace of a sheet: its hall, a line for the journey of each packet, and the number of packets; or the sheet's refusal alone.
 -- Section "The night sheet".
-use mathlib.Core.Bool.{false}
 use mathlib.Core.List.{List, [], _∷_, _++_}
 use Prim.Native.Nat.{ℕ, zero, suc, _+_, _-_}
 use lib.Dec.{eqb, leb, ltb}

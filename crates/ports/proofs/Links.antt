@@ -2,14 +2,14 @@
 use mathlib.Core.Path.{_≡_, refl, sym, _∙_, ap}
 use mathlib.Core.Bool.{Bool, true, false, not}
 use mathlib.Core.List.{List}
-use Prim.Native.Nat.{ℕ, zero, suc, _+_, _*_, _/_, _%_, _≤_, _<_}
+use Prim.Native.Nat.{ℕ, zero, suc, _+_, _*_, _/_, _%_, _<_}
 use native.Mathlib.Nat.{mod-lt, div-add-mod', div-eq-of-lt}
 use native.Mathlib.Omega.{arith}
 use lib.Dec.{eqb}
 use lib.Arith.{digits-div}
-use borrow.Author.Tests.{eqb-true, eqb-false, eq-eqb, ne-eqb, not-true, not-false}
+use borrow.Author.Tests.{eqb-true, eq-eqb, ne-eqb}
 use Rattle.combine.specs.Tests.{both, either, anyBelow}
-use Rattle.combine.proofs.Tests.{cases, never, both-ways, both-left, both-right, both-true, either-cases, either-true, any-in, any-some}
+use Rattle.combine.proofs.Tests.{never, both-ways, both-left, both-right, both-true, either-cases, either-true, any-in, any-some}
 use Rattle.hall.specs.declared.Hall.{Hall}
 use Rattle.hall.specs.Cells.{t, cell, same, neighbour}
 use Rattle.hall.proofs.Cells.{same-eq, eq-same, same-sym, same-up, t-pos, neighbour-neighbour, neighbour-stays}

@@ -3,22 +3,21 @@
 use mathlib.Core.Path.{_≡_, refl, sym, _∙_, ap}
 use mathlib.Core.Bool.{true, false}
 use mathlib.Core.List.{List, [], _∷_}
-use mathlib.Core.Logic.{⊎-elim}
-use Prim.Native.Nat.{ℕ, zero, suc, _+_, _-_, _*_, _/_, _%_, _≤_, _<_}
-use native.Mathlib.Nat.{mod-lt, div-add-mod', div-lt-iff-lt-mul, mul-le-mul-right, mul-le-mul}
+use Prim.Native.Nat.{ℕ, zero, suc, _+_, _-_, _*_, _/_, _≤_, _<_}
+use native.Mathlib.Nat.{div-lt-iff-lt-mul, mul-le-mul-right, mul-le-mul}
 use native.Mathlib.Omega.{arith}
 use lib.Dec.{eqb, ltb, leb}
-use lib.ListN.{length, getD, take, drop}
+use lib.ListN.{length, take, drop}
 use borrow.Author.Tests.{eqb-true, eq-eqb, ne-eqb, leb-true, leb-false, ltb-true, lt-ltb, le-ltb}
-use Rattle.combine.specs.Tests.{pick, both}
-use Rattle.combine.proofs.Tests.{cases, never}
+use Rattle.combine.specs.Tests.{pick}
+use Rattle.combine.proofs.Tests.{cases}
 use Rattle.hall.specs.declared.Hall.{Hall}
 use Rattle.hall.specs.Cells.{t, cell}
 use Rattle.hall.specs.Halls.{places, valid, servers, asksHall, asksUid}
 use Rattle.hall.specs.Refusals.{refusal, inOrder, bad-hall, bad-length, bad-uid, bad-code}
 use Rattle.hall.proofs.Asks.{refusal-in-order, unrefused-hold}
-use Rattle.hall.proofs.Growth.{Valid, valid-known, valid-pos, valid-size, valid-servers, some-servers}
-use Rattle.ports.specs.Codes.{largest-table, allKnown, firstUnknown, codeOf, up, tableLength, cellLength, run}
+use Rattle.hall.proofs.Growth.{valid-known, valid-pos, valid-size, valid-servers, some-servers}
+use Rattle.ports.specs.Codes.{largest-table, allKnown, firstUnknown, tableLength, cellLength, run}
 use Rattle.ports.specs.Answers.{asksTable, checkOf, partRefusal, partOf}
 use Rattle.ports.specs.declared.TableCheck.{TableCheck}
 use Rattle.ports.proofs.Tables.{all-known, some-unknown}

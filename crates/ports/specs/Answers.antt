@@ -1,6 +1,5 @@
 -- What each public call about a table of port codes answers.
 -- Sections "Port codes" and "Refusal numbers".
-use mathlib.Core.Bool.{Bool, true, false}
 use mathlib.Core.List.{List, [], _∷_}
 use Prim.Native.Nat.{ℕ}
 use lib.Dec.{eqb}

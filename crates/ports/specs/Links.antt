@@ -1,6 +1,6 @@
 -- Which servers a link of level at most l joins, and which of those links are usable: both end ports up.
 -- Sections "The hall and its numbers" and "Port codes".
-use mathlib.Core.Bool.{Bool, true, false, not}
+use mathlib.Core.Bool.{Bool, not}
 use mathlib.Core.List.{List}
 use Prim.Native.Nat.{ℕ, zero, suc, _+_, _*_}
 use lib.Dec.{eqb}

@@ -1,6 +1,5 @@
 -- The lines that the trace prints, as ASCII bytes; every line ends in a newline.
 -- Section "The night sheet".
-use mathlib.Core.Bool.{Bool, true, false}
 use mathlib.Core.List.{List, [], _∷_, _++_}
 use Prim.Native.Nat.{ℕ, zero, suc, min, _+_, _/_, _%_}
 use lib.Dec.{eqb, ltb}

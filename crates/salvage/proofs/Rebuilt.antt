@@ -9,7 +9,7 @@ use native.Mathlib.Omega.{arith}
 use lib.Dec.{eqb, leb, ltb}
 use lib.ListN.{length, getD, drop, replicate, length-append, length-take, length-map, length-replicate, length-drop}
 use lib.Seq.{getD-take, getD-drop}
-use borrow.Author.Tests.{leb-true, le-leb, eqb-true, eq-eqb, ltb-true, ltb-false}
+use borrow.Author.Tests.{leb-true, le-leb, eqb-true, ltb-true, ltb-false}
 use Rattle.combine.specs.Tests.{pick}
 use Rattle.combine.proofs.Tests.{cases, never}
 use Rattle.hall.specs.declared.Hall.{Hall}
@@ -21,7 +21,7 @@ use Rattle.sheet.specs.declared.Field.{Field}
 use Rattle.sheet.specs.declared.Field.the-variants.{Value, Refused}
 use Rattle.words.specs.Words.{value, Bytes}
 use Rattle.sheet.specs.Formats.{Format, and-then, read}
-use Rattle.sheet.specs.Sheets.{longest, count, number-n, number-k, number-b, packet, packets, tablesOf, nightSheet}
+use Rattle.sheet.specs.Sheets.{longest, count, number-n, number-k, number-b, packet, tablesOf, nightSheet}
 use Rattle.sheet.specs.Answers.{countPlace, codesPlace, codeCountOf, hallOf, acceptedAs, sheetOf}
 use Rattle.sheet.proofs.Reading.{onward, read-then, then-refused, field-read}
 use Rattle.sheet.proofs.Places.{codes-behind, count-place}

@@ -1,24 +1,20 @@
 -- Laws of a sheet that is read to its end: what each of its fields then is, and where each section stands.
 use mathlib.Core.Path.{_≡_, refl, sym, _∙_, ap}
-use mathlib.Core.Bool.{Bool, true, false}
+use mathlib.Core.Bool.{Bool, true}
 use mathlib.Core.List.{List}
 use Prim.Native.Nat.{ℕ, zero, suc, _+_, _-_, _*_, _≤_, _<_}
-use native.Mathlib.Numerals.{add-one}
 use native.Mathlib.Omega.{arith}
 use lib.Dec.{eqb, leb, ltb}
-use lib.ListN.{length, getD}
-use borrow.Author.Tests.{eqb-true, ltb-true, leb-true, lt-ltb, le-leb, eq-eqb}
-use Rattle.hall.specs.declared.Hall.{Hall}
-use Rattle.hall.specs.Halls.{nFits, kFits, bFits, valid, servers}
-use Rattle.hall.specs.Refusals.{bad-hall, bad-uid, bad-length, bad-code, bad-header, bad-sheet}
-use Rattle.ports.specs.Codes.{known, tableLength}
+use lib.ListN.{length}
+use borrow.Author.Tests.{ltb-true, leb-true, lt-ltb, le-leb}
+use Rattle.hall.specs.Halls.{nFits, kFits, bFits}
+use Rattle.hall.specs.Refusals.{bad-hall, bad-uid, bad-length, bad-header, bad-sheet}
 use Rattle.sheet.specs.declared.Field.{Field}
 use Rattle.sheet.specs.declared.Field.the-variants.{Value, Refused}
 use Rattle.words.specs.Words.{value}
 use Rattle.sheet.specs.Formats.{Format, done, field, and-then, read}
-use Rattle.sheet.specs.Sheets.{any, count, number-n, number-k, number-b, code, uid, retry, times, codes, packet, packets, tablesOf, nightSheet}
-use Rattle.sheet.specs.Answers.{hallOf}
-use Rattle.sheet.proofs.Reading.{onward, read-done, read-sound, read-wrong, read-cut, read-cases, read-then, field-read, then-value, any-there, times-none, valid-read}
+use Rattle.sheet.specs.Sheets.{retry, times, packet, nightSheet}
+use Rattle.sheet.proofs.Reading.{onward, read-done, read-sound, read-wrong, read-cut, read-cases, read-then, field-read, then-value, any-there, times-none}
 
 -- a format behind another that was read to its end: so was each
 onward-value : (r : Field) (k : ℕ → ℕ → Field) (v next : ℕ) → onward r k ≡ Value v next

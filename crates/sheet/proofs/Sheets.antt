@@ -2,13 +2,10 @@
 use mathlib.Core.Path.{_≡_, _∙_}
 use mathlib.Core.List.{List}
 use Prim.Native.Nat.{ℕ, _≤_, _<_}
-use lib.Dec.{ltb}
 use lib.ListN.{length, getD}
 use borrow.Author.Tests.{lt-ltb, le-ltb}
 use Rattle.hall.specs.Refusals.{bad-sheet}
-use Rattle.sheet.specs.declared.Field.{Field}
 use Rattle.sheet.specs.declared.Field.the-variants.{Value, Refused}
-use Rattle.sheet.specs.declared.Sheet.{Sheet}
 use Rattle.sheet.specs.Formats.{read}
 use Rattle.sheet.specs.Sheets.{longest, nightSheet}
 use Rattle.sheet.specs.Answers.{refusedAt, acceptedAs, told, sheetOf}

@@ -1,6 +1,5 @@
 -- What reading a sheet answers.
 -- Sections "The night sheet" and "Refusal numbers".
-use mathlib.Core.Bool.{Bool, true, false}
 use mathlib.Core.List.{List}
 use Prim.Native.Nat.{ℕ, _+_, _*_}
 use lib.Dec.{ltb}

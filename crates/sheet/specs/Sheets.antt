@@ -1,8 +1,7 @@
 -- The night sheet as a format: its fields in order, and what each of them has to be.
 -- Section "The night sheet".
-use mathlib.Core.Bool.{Bool, true, false}
-use mathlib.Core.List.{List}
-use Prim.Native.Nat.{ℕ, zero, suc, _+_, _*_}
+use mathlib.Core.Bool.{true}
+use Prim.Native.Nat.{ℕ, zero, suc}
 use lib.Dec.{eqb, leb, ltb}
 use Rattle.hall.specs.declared.Hall.{Hall}
 use Rattle.hall.specs.Halls.{nFits, kFits, bFits, servers}

@@ -1,6 +1,6 @@
 -- An accepted sheet is the one encoding of its values: it is what is laid of the values that stand in it, section by section.
 use mathlib.Core.Path.{_≡_, refl, sym, _∙_, ap}
-use mathlib.Core.List.{List, [], _++_, append-assoc, append-nil}
+use mathlib.Core.List.{List, _++_, append-assoc, append-nil}
 use Prim.Native.Nat.{ℕ, zero, suc, _+_, _*_, _≤_, _<_}
 use native.Mathlib.Omega.{arith}
 use lib.ListN.{length, take, drop, length-drop}
@@ -14,14 +14,14 @@ use Rattle.words.proofs.Words.{drop-bytes}
 use Rattle.sheet.specs.Formats.{Format, done, and-then}
 use Rattle.sheet.specs.Sheets.{any, codes, packet, packets, times, tablesOf, nightSheet}
 use Rattle.sheet.specs.Answers.{countPlace, codesPlace, codeCountOf, hallOf, acceptedAs, sheetOf, packetPlace}
-use Rattle.sheet.specs.Accepted.{packetCountOf, Accepted}
+use Rattle.sheet.specs.Accepted.{packetCountOf}
 use Rattle.sheet.proofs.Places.{count-place}
 use Rattle.sheet.proofs.Held.{accepted-read, accepted-holds, long, holds-accepted}
 use Rattle.laying.specs.Filled.{laid, valuesIn}
 use Rattle.laying.proofs.Reading.{accepted-laid, values-then}
 use Rattle.sheetparts.specs.declared.SheetPacket.{SheetPacket}
 use Rattle.sheetparts.specs.Parts.{codesOf, packetPart, packetFields, packetAt}
-use Rattle.sheetparts.specs.Encoding.{packetBytes, packetsBytes, encodingOf}
+use Rattle.sheetparts.specs.Encoding.{packetsBytes, encodingOf}
 use Rattle.sheetparts.proofs.Parts.{codes-there, codes-answered, packet-answered}
 
 -- packets that agree have the same bytes

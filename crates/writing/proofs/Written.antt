@@ -15,7 +15,7 @@ use Rattle.hall.specs.Halls.{valid, servers}
 use Rattle.hall.proofs.Growth.{valid-known}
 use Rattle.sheet.specs.declared.Field.{Field}
 use Rattle.sheet.specs.declared.Field.the-variants.{Value, Refused}
-use Rattle.words.specs.Words.{value, Bytes, bytesOf}
+use Rattle.words.specs.Words.{Bytes, bytesOf}
 use Rattle.words.proofs.Bytes.{bytes-long, value-laid, value-fits, drop-laid}
 use Rattle.sheet.specs.Formats.{and-then, done}
 use Rattle.sheet.specs.Sheets.{longest, packet, packets, tablesOf, nightSheet}
@@ -23,11 +23,10 @@ use Rattle.sheet.specs.Answers.{codesPlace, codeCountOf, acceptedAs, sheetOf, p
 use Rattle.sheet.proofs.Numbers.{numbers-sheet}
 use Rattle.sheet.proofs.Held.{accepted-holds, long, holds-accepted, hall-fields}
 use Rattle.sheetparts.specs.declared.SheetPacket.{SheetPacket}
-use Rattle.sheetparts.specs.Parts.{codesOf, packetPart, packetAt, packetRefused, packetFields}
+use Rattle.sheetparts.specs.Parts.{codesOf, packetPart, packetAt, packetRefused}
 use Rattle.sheetparts.specs.Encoding.{packetBytes}
 use Rattle.sheetparts.proofs.Parts.{codes-there, codes-answered, packet-answered}
 use Rattle.ports.specs.Codes.{known, tableLength}
-use Rattle.sheet.specs.Accepted.{packetCountOf}
 use Rattle.laying.proofs.Lists.{every-map, at-every}
 use Rattle.laying.specs.Filled.{result, judged, All, Sound, joined, Every, ended, each}
 use Rattle.writing.specs.Writing.{filledSheet, sheetFor, toldFor, writerSays, listed, packetOf, packetsRead, plain, PacketHeld, Held, HallBytes, filledCode, filledPacket, behindCodes, PacketSound}

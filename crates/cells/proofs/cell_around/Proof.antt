@@ -1,7 +1,6 @@
 -- `cells::cell_around` meets its contract: the cell's first uid is its number times its size.
 use borrow.Author.Needs.{needs}
-use mathlib.Core.Path.{_≡_, refl, sym, _∙_, ap}
-use Prim.Native.Nat.{ℕ, _/_, _*_, _<_, _≤_}
+use mathlib.Core.Path.{_≡_, sym, _∙_}
 use native.Mathlib.Nat.{div-mul-le-self}
 use native.Mathlib.Omega.{arith}
 use Rattle.hall.specs.Cells.{t, cell}

@@ -1,7 +1,7 @@
 -- `cells::neighbour_of` meets its contract: sub-cells of level i - 1 have t(i - 1) servers, and a neighbour is in the hall.
 use borrow.Author.Needs.{needs}
-use mathlib.Core.Path.{_≡_, refl, sym, _∙_, ap}
-use Prim.Native.Nat.{ℕ, _-_, _<_, _≤_}
+use mathlib.Core.Path.{_≡_, sym, _∙_, ap}
+use Prim.Native.Nat.{ℕ, _-_, _<_}
 use native.Mathlib.Omega.{arith}
 use Rattle.hall.specs.declared.Hall.{Hall}
 use Rattle.hall.specs.Cells.{t, neighbourOver, neighbour}

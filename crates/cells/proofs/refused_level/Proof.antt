@@ -1,6 +1,6 @@
 -- `cells::refused_level` meets its contract: what is refused before the level is refused with it, and then the level decides.
 use borrow.Author.Needs.{needs}
-use mathlib.Core.Path.{_≡_, sym, _∙_}
+use mathlib.Core.Path.{sym, _∙_}
 use Rattle.cells.proofs.Asks.{level-later, level-low, level-high, level-sound}
 use Rattle.cells.proofs.refused_level.Statement.{statement}
 use Rattle.cells.proofs.refused_level.Tie as tie

@@ -1,11 +1,9 @@
 -- `cells::refused_uid` meets its contract: a hall without servers is none, and then the uid decides.
 use borrow.Author.Needs.{needs}
 use borrow.Author.Tests.{lt-ltb, le-ltb}
-use mathlib.Core.Path.{_≡_, sym, _∙_}
-use mathlib.Core.Bool.{true}
+use mathlib.Core.Path.{_≡_}
 use mathlib.Core.List.{[], _∷_}
 use Prim.Native.Nat.{ℕ, _<_, _≤_}
-use native.Mathlib.Omega.{arith}
 use Rattle.combine.specs.Tests.{pick}
 use Rattle.hall.specs.declared.Hall.{Hall}
 use Rattle.hall.specs.Refusals.{refusal}

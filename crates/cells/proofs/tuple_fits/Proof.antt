@@ -1,8 +1,7 @@
 -- `cells::tuple_fits` meets its contract: the places passed all fit.
-use borrow.Author.Needs.{needs}
 use mathlib.Core.Bool.{true}
-use mathlib.Core.Path.{_≡_, refl, sym, _∙_, ap}
-use Prim.Native.Nat.{ℕ, _-_, _≤_}
+use mathlib.Core.Path.{_≡_, sym, _∙_}
+use Prim.Native.Nat.{_-_, _≤_}
 use native.Mathlib.Omega.{arith}
 use borrow.Author.Tests.{not-true, not-false}
 use Rattle.combine.specs.Tests.{allBelow}

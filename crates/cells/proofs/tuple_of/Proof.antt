@@ -1,6 +1,6 @@
 -- `cells::tuple_of` meets its contract: a valid hall's uid has its entries.
 use borrow.Author.Needs.{needs}
-use mathlib.Core.Path.{_≡_, refl, sym, _∙_}
+use mathlib.Core.Path.{sym, _∙_}
 use Rattle.cells.proofs.Asks.{uid-known, refused-test, sound-test}
 use Rattle.cells.proofs.tuple_of.Statement.{statement}
 use Rattle.cells.proofs.tuple_of.Tie as tie

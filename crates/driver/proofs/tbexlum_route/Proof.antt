@@ -1,6 +1,6 @@
 -- `driver::tbexlum_route` meets its contract: it tells the route's uids, the first links + 1 of the answer's places.
 use mathlib.Core.Path.{_≡_, ap, sym}
-use Prim.Native.Nat.{ℕ, _<_}
+use Prim.Native.Nat.{_<_}
 use native.Mathlib.Omega.{arith}
 use borrow.Author.Needs.{needs}
 use lib.ListN.{length}

@@ -1,5 +1,5 @@
 -- `driver::tell` meets its contract, by the three ways in which an answer is told: a word takes four bytes of the room.
-use mathlib.Core.Path.{_≡_, refl, sym, _∙_}
+use mathlib.Core.Path.{sym, _∙_}
 use mathlib.Core.List.{List}
 use Prim.Native.Nat.{ℕ, _/_, _<_, _≤_}
 use native.Mathlib.Omega.{arith}

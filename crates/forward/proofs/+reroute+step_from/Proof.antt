@@ -1,6 +1,6 @@
 -- `forward::step_from` and `forward::reroute` meet their contracts: each hands the other a packet that stands at the server, and the retry falls
 -- with each reroute.
-use mathlib.Core.Path.{_≡_, _∙_, sym, ap}
+use mathlib.Core.Path.{_∙_, sym, ap}
 use Prim.Native.Nat.{ℕ, _+_, _*_, _<_}
 use native.Mathlib.Omega.{arith}
 use borrow.Author.Needs.{needs}

@@ -1,6 +1,4 @@
 -- `forward::travel` meets its contract: what is passed so far before what is left is the whole journey, and the TTL falls with each step.
-use mathlib.Core.Path.{_≡_, _∙_}
-use Prim.Native.Nat.{_+_}
 use native.Mathlib.Omega.{arith}
 use borrow.Author.Needs.{needs}
 use Rattle.forward.proofs.CodeTrips.{Underway, sets-off, part-here, step-is, step-few, ttl-falls, ends-journey, goes-on}

@@ -1,6 +1,6 @@
 -- `hall::size` meets its contract: after j rounds s is the size of level j.
 use mathlib.Core.Path.{_≡_, refl}
-use Prim.Native.Nat.{ℕ, _+_, _*_, _-_, _≤_, _<_}
+use Prim.Native.Nat.{_-_, _≤_}
 use native.Mathlib.Omega.{arith}
 use Rattle.hall.specs.Cells.{t}
 use Rattle.hall.proofs.Growth.{t-fits, t-next, next-fits}

@@ -1,7 +1,7 @@
 -- `hall::size_of` meets its contract: a valid hall has its sizes, up to level k.
 use borrow.Author.Needs.{needs}
 use borrow.Author.Tests.{not-true, not-false}
-use mathlib.Core.Path.{_≡_, sym, _∙_}
+use mathlib.Core.Path.{sym, _∙_}
 use Rattle.hall.specs.Answers.{sizeOf}
 use Rattle.hall.proofs.Growth.{valid-known, sized-below, size-at, size-above}
 use Rattle.hall.proofs.size_of.Statement.{statement}

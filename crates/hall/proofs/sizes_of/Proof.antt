@@ -1,7 +1,7 @@
 -- `hall::sizes_of` meets its contract: a valid hall has its sizes.
 use borrow.Author.Needs.{needs}
 use borrow.Author.Tests.{not-true, not-false}
-use mathlib.Core.Path.{_≡_, sym, _∙_}
+use mathlib.Core.Path.{sym, _∙_}
 use Rattle.hall.specs.Refusals.{refusal}
 use Rattle.hall.proofs.Growth.{valid-known}
 use Rattle.hall.proofs.sizes_of.Statement.{statement}

@@ -1,11 +1,11 @@
 -- `hall::sizes_up_to` meets its contract: the places below i hold their sizes, s is the next, and zeros stand behind.
 use mathlib.Core.Path.{_≡_, refl, sym, _∙_, ap}
 use mathlib.Core.List.{List, _++_}
-use Prim.Native.Nat.{ℕ, zero, suc, _+_, _*_, _-_, _≤_, _<_}
+use Prim.Native.Nat.{ℕ, _+_, _-_, _≤_}
 use native.Mathlib.Omega.{arith}
 use lib.ListN.{length, drop, replicate, set}
 use Rattle.combine.specs.Lists.{upTo}
-use Rattle.combine.proofs.Lists.{up-none, up-more, up-zeros, length-up}
+use Rattle.combine.proofs.Lists.{up-more, up-zeros, length-up}
 use Rattle.hall.specs.Cells.{t}
 use Rattle.hall.specs.Halls.{top, places}
 use Rattle.hall.specs.Answers.{sizeAt}

@@ -1,5 +1,5 @@
 -- `lines::journey_line` meets its contract: refused in order, or the line of the packet's journey.
-use mathlib.Core.Path.{_≡_, sym, _∙_, ap}
+use mathlib.Core.Path.{sym, _∙_, ap}
 use native.Mathlib.Omega.{arith}
 use borrow.Author.Needs.{needs}
 use Rattle.forward.specs.declared.Journey.{Journey}

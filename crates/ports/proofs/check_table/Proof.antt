@@ -1,8 +1,7 @@
 -- `ports::check_table` meets its contract: a hall without servers is none, and each return has the tests that decide its answer.
-use mathlib.Core.Path.{_≡_, sym, _∙_}
+use mathlib.Core.Path.{sym, _∙_}
 use native.Mathlib.Omega.{arith}
 use borrow.Author.Needs.{needs}
-use Rattle.ports.specs.Codes.{tableLength}
 use Rattle.hall.proofs.Growth.{no-servers, some-servers}
 use Rattle.ports.proofs.Parts.{bytes-are, table-fits, check-hall, check-length, check-code, check-good}
 use Rattle.ports.proofs.check_table.Statement.{statement}

@@ -1,7 +1,5 @@
 -- `ports::part_refusal` meets its contract: a hall without servers is none, and each return has the tests that decide its number.
-use mathlib.Core.Path.{_≡_, sym, _∙_}
-use Prim.Native.Nat.{_≤_, _<_}
-use native.Mathlib.Omega.{arith}
+use mathlib.Core.Path.{sym, _∙_}
 use borrow.Author.Needs.{needs}
 use Rattle.hall.proofs.Growth.{no-servers, some-servers, valid-servers}
 use Rattle.ports.proofs.Parts.{bytes-are, part-hall, part-length, part-uid, part-good}

@@ -1,10 +1,9 @@
 -- `rooms::put` meets its contract: the words below i stand in the room, and the room behind them is as it was.
-use mathlib.Core.Path.{_≡_, refl, sym, _∙_, ap}
-use mathlib.Core.List.{List, _++_}
-use Prim.Native.Nat.{ℕ, zero, suc, _+_, _-_, _≤_, _<_}
+use mathlib.Core.Path.{_≡_, refl, _∙_}
+use Prim.Native.Nat.{_-_, _≤_}
 use native.Mathlib.Omega.{arith}
 use borrow.Author.Needs.{needs}
-use lib.ListN.{length, take, drop, getD, set, length-set}
+use lib.ListN.{length, length-set}
 use lib.Seq.{take-all}
 use Rattle.hall.proofs.Told.{Put, put-more}
 use Rattle.rooms.proofs.put.Statement.{statement}

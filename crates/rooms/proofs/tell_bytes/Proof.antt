@@ -1,5 +1,5 @@
 -- `rooms::tell_bytes` meets its contract, by the three ways in which an answer is told.
-use mathlib.Core.Path.{_≡_, refl, sym, _∙_}
+use mathlib.Core.Path.{sym, _∙_}
 use borrow.Author.Needs.{needs}
 use Rattle.hall.proofs.Told.{told-refused, told-short, told-good, written-refused, written-short, written-good}
 use Rattle.words.proofs.Rooms.{room-start}

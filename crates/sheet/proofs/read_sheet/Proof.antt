@@ -1,5 +1,5 @@
 -- `sheet::read_sheet` meets its contract: the length decides, then the whole sheet's read, then what stands behind it.
-use mathlib.Core.Path.{_≡_, sym, _∙_}
+use mathlib.Core.Path.{sym, _∙_}
 use native.Mathlib.Omega.{arith}
 use Rattle.sheet.proofs.Sheets.{sheet-long, sheet-refused, sheet-surplus, sheet-accepted}
 use Rattle.sheet.proofs.Accepted.{head-there}

@@ -1,5 +1,5 @@
 -- `sheetparts::codes_of` meets its contract: the sheet's refusal decides, and then the part.
-use mathlib.Core.Path.{_≡_, sym, _∙_}
+use mathlib.Core.Path.{_∙_}
 use Rattle.sheetparts.proofs.Parts.{codes-refused, codes-answered}
 use borrow.Author.Needs.{needs}
 use Rattle.sheetparts.proofs.codes_of.Statement.{statement}

@@ -1,8 +1,7 @@
 -- `sheetparts::codes_part` meets its contract: the part is there, as the count says, or it is empty.
-use mathlib.Core.Path.{_≡_, sym, _∙_, ap}
-use Prim.Native.Nat.{ℕ, _+_, _-_, _≤_, _<_}
+use mathlib.Core.Path.{_≡_}
+use Prim.Native.Nat.{_+_, _-_}
 use native.Mathlib.Omega.{arith}
-use lib.ListN.{length, take, drop}
 use Rattle.sheet.proofs.Places.{codes-behind}
 use Rattle.sheetparts.proofs.Parts.{count-read, codes-short, codes-there}
 use borrow.Author.Needs.{needs}

@@ -1,5 +1,5 @@
 -- `sheetparts::codes_place` meets its contract: the first section has 3 bytes, and each of the two counts 4.
-use mathlib.Core.Path.{_≡_, refl}
+use mathlib.Core.Path.{refl}
 use borrow.Author.Needs.{needs}
 use Rattle.sheet.specs.Answers.{countPlace, codesPlace}
 use Rattle.sheetparts.proofs.codes_place.Statement.{statement}

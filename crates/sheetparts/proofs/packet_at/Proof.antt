@@ -1,5 +1,5 @@
 -- `sheetparts::packet_at` meets its contract: the sheet's refusal decides, then the number of packets, and then the bytes.
-use mathlib.Core.Path.{_≡_, sym, _∙_}
+use mathlib.Core.Path.{_∙_}
 use Rattle.sheetparts.proofs.Parts.{packet-of-refused, packet-past, packet-answered}
 use borrow.Author.Needs.{needs}
 use Rattle.sheetparts.proofs.packet_at.Statement.{statement}

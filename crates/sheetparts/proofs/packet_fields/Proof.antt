@@ -1,8 +1,7 @@
 -- `sheetparts::packet_fields` meets its contract: the bytes are there, at the place that the count and i give, or they are not.
-use mathlib.Core.Path.{_≡_, sym, _∙_, ap}
-use Prim.Native.Nat.{ℕ, _+_, _*_, _≤_, _<_}
+use mathlib.Core.Path.{_∙_}
+use Prim.Native.Nat.{_+_, _*_}
 use native.Mathlib.Omega.{arith}
-use lib.ListN.{length}
 use Rattle.words.proofs.Words.{word-there}
 use Rattle.sheet.proofs.Places.{codes-behind}
 use Rattle.sheetparts.proofs.Parts.{count-read, packet-short, packet-there}

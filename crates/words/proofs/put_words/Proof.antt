@@ -1,8 +1,7 @@
 -- `words::put_words` meets its contract: after i turns the bytes of the first i words stand in the room, and the rest is as it was.
 use mathlib.Core.Path.{_≡_, refl, sym, _∙_}
-use Prim.Native.Nat.{_+_, _-_, _*_, _≤_, _<_}
+use Prim.Native.Nat.{_+_, _-_, _*_, _≤_}
 use native.Mathlib.Omega.{arith}
-use borrow.Author.Needs.{needs}
 use lib.ListN.{length, take, getD}
 use lib.Seq.{take-all}
 use Rattle.words.specs.Words.{bigEndian, wordsBytes}

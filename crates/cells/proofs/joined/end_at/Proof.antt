@@ -1,7 +1,5 @@
 -- `cells::joined::end_at` meets its contract, and its sum fits 64 bits.
 use borrow.Author.Needs.{needs}
-use mathlib.Core.Path.{_≡_, ap}
-use Prim.Native.Nat.{ℕ, _+_, _*_}
 use native.Mathlib.Omega.{arith}
 use Rattle.cells.proofs.Wide.{times-fits, port-below}
 use Rattle.cells.proofs.joined.end_at.Statement.{statement}

@@ -1,10 +1,9 @@
 -- `cells::joined::ends_over` meets its contract: both ends lie in the cell around x, and of sub-cells of no server nothing is left.
-use borrow.Author.Needs.{needs}
-use mathlib.Core.Path.{_≡_, refl, sym, _∙_, ap}
-use Prim.Native.Nat.{ℕ, _+_, _*_, _<_, _≤_}
+use mathlib.Core.Path.{_≡_}
+use Prim.Native.Nat.{ℕ, _<_, _≤_}
 use native.Mathlib.Nat.{div-zero}
 use native.Mathlib.Omega.{arith}
-use Rattle.hall.specs.Cells.{port, subOver, firstOver, endOver}
+use Rattle.hall.specs.Cells.{port, subOver, firstOver}
 use Rattle.cells.specs.Answers.{endsOver}
 use Rattle.hall.proofs.Place.{sub-below}
 use Rattle.cells.proofs.Wide.{first-below}

@@ -1,6 +1,6 @@
 -- `cells::joined::first_over` meets its contract: the cell of (T + 1) * T servers is read off the sub-cell's number by one division.
 use borrow.Author.Needs.{needs}
-use mathlib.Core.Path.{_≡_, sym, ap}
+use mathlib.Core.Path.{_≡_, ap}
 use Prim.Native.Nat.{ℕ, _+_, _*_, _/_}
 use native.Mathlib.Nat.{div-le-self}
 use native.Mathlib.Omega.{arith}

@@ -1,10 +1,9 @@
 -- `cells::joined::neighbour_over` meets its contract: it tells the sub-cell from the place inside as the rule of links does.
 use borrow.Author.Needs.{needs}
-use mathlib.Core.Path.{_≡_, refl, sym, _∙_, ap}
-use Prim.Native.Nat.{ℕ, _+_, _-_, _*_, _/_, _%_, _<_, _≤_}
-use native.Mathlib.Nat.{div-zero, mod-lt, mod-le}
+use mathlib.Core.Path.{_≡_}
+use Prim.Native.Nat.{ℕ, _+_, _-_, _*_, _%_, _<_, _≤_}
+use native.Mathlib.Nat.{div-zero, mod-lt}
 use native.Mathlib.Omega.{arith}
-use lib.Dec.{leb}
 use borrow.Author.Tests.{le-leb, lt-leb}
 use Rattle.hall.specs.Cells.{subOver, firstOver, neighbourOver}
 use Rattle.hall.proofs.Place.{sub-below}

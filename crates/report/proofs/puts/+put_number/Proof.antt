@@ -1,11 +1,11 @@
 -- `report::puts::put_number` meets its contract: a number's digits but the last are those of a tenth of it, and it falls.
-use mathlib.Core.Path.{_≡_, refl, sym, _∙_, ap}
+use mathlib.Core.Path.{_∙_, ap}
 use Prim.Native.Nat.{_+_, _/_}
 use native.Mathlib.Omega.{arith}
 use lib.ListN.{length, length-set}
 use Rattle.report.specs.Texts.{decimal}
 use Rattle.report.proofs.Texts.{decimal-small, decimal-more, decimal-more-length}
-use Rattle.words.proofs.Rooms.{put-one, put-byte, length-put}
+use Rattle.words.proofs.Rooms.{put-one, put-byte}
 use Prim.Native.Nat.{ℕ, _<_}
 use borrow.Fn.Kinds.{In}
 use borrow.Fn.PlainCycle.{Measures, is, falls, and}

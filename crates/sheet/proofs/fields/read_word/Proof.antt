@@ -1,5 +1,5 @@
 -- `sheet::fields::read_word` meets its contract: the four bytes are there or the sheet is cut.
-use mathlib.Core.Path.{sym, _∙_}
+use mathlib.Core.Path.{sym}
 use native.Mathlib.Omega.{arith}
 use Rattle.words.proofs.Words.{word-there}
 use Rattle.sheet.proofs.Reading.{any-cut, any-there}

@@ -1,12 +1,10 @@
 -- `sheet::sections::read_tables` meets its contract: each section is read behind the one before it, and the first that is refused is the answer; the code's servers are the hall's.
-use mathlib.Core.Path.{_≡_, sym, _∙_}
+use mathlib.Core.Path.{sym, _∙_}
 use native.Mathlib.Omega.{arith}
-use Rattle.hall.specs.Halls.{servers}
 use Rattle.ports.specs.Codes.{tableLength}
 use Rattle.hall.proofs.Growth.{valid-servers}
 use Rattle.ports.proofs.Parts.{product-fits}
 use Rattle.sheet.specs.Sheets.{tablesOf}
-use Rattle.sheet.specs.Formats.{read}
 use Rattle.sheet.proofs.Reading.{read-done, then-value, then-refused, next-within}
 use borrow.Author.Needs.{needs}
 use Rattle.sheet.proofs.sections.read_tables.Statement.{statement}

@@ -1,5 +1,5 @@
 -- `sheet::sections::read_whole` meets its contract: each field is read behind the one before it, and the first that is refused is the answer.
-use mathlib.Core.Path.{_≡_, sym, _∙_}
+use mathlib.Core.Path.{sym, _∙_}
 use native.Mathlib.Omega.{arith}
 use Rattle.sheet.specs.Sheets.{nightSheet}
 use Rattle.sheet.proofs.Reading.{then-value, then-refused, next-within, valid-read}
