@@ -10,7 +10,7 @@ use Rattle.combine.specs.Tests.{pick, either}
 use Rattle.combine.proofs.Tests.{never}
 use Rattle.hall.specs.declared.Hall.{Hall}
 use Rattle.hall.specs.Halls.{valid, servers, asksHall}
-use Rattle.hall.specs.Refusals.{refusal, inOrder, bad-length}
+use Rattle.hall.specs.Refusals.{refusal, inOrder, bad-length, most-retry}
 use Rattle.hall.proofs.Asks.{refusal-in-order, first-refuses, first-passes, unrefused-hold}
 use Rattle.ports.specs.Codes.{tableLength, cellLength}
 use Rattle.ports.specs.Answers.{asksTable, asksCell}
@@ -25,7 +25,7 @@ use Rattle.forward.specs.Inside.{Here, Sound, Departing, asksBelow}
 
 -- the tests of a packet, in order
 module _ (count me : ℕ) (p : Packet) (fit : Bool) (is : fit ≡ either (not (p .«has_proxy»)) (ltb (p .proxy) count)) where
-  by-tests : refusal (asksBelow count me p) ≡ pick (ltb me count) (pick (ltb (p .dst) count) (pick fit (pick (leb (p .retry) 15) 0 8) 2) 2) 2
+  by-tests : refusal (asksBelow count me p) ≡ pick (ltb me count) (pick (ltb (p .dst) count) (pick fit (pick (leb (p .retry) most-retry) 0 8) 2) 2) 2
   unfolding inOrder
   by-tests = refusal-in-order (asksBelow count me p) refl ∙ rw is
 
@@ -33,11 +33,11 @@ module _ (count me : ℕ) (p : Packet) (fit : Bool) (is : fit ≡ either (not (p
     pub refuses-proxy : fit ≡ false → 2 ≡ refusal (asksBelow count me p)
     refuses-proxy e = sym (by-tests ∙ rw (lt-ltb me count me-fits, lt-ltb (p .dst) count dst-fits, e))
 
-    pub refuses-retry : fit ≡ true → 15 < p .retry → 8 ≡ refusal (asksBelow count me p)
-    refuses-retry e l = sym (by-tests ∙ rw (lt-ltb me count me-fits, lt-ltb (p .dst) count dst-fits, e, lt-leb (p .retry) 15 l))
+    pub refuses-retry : fit ≡ true → most-retry < p .retry → 8 ≡ refusal (asksBelow count me p)
+    refuses-retry e l = sym (by-tests ∙ rw (lt-ltb me count me-fits, lt-ltb (p .dst) count dst-fits, e, lt-leb (p .retry) most-retry l))
 
-    pub refuses-nothing : fit ≡ true → p .retry ≤ 15 → 0 ≡ refusal (asksBelow count me p)
-    refuses-nothing e l = sym (by-tests ∙ rw (lt-ltb me count me-fits, lt-ltb (p .dst) count dst-fits, e, le-leb (p .retry) 15 l))
+    pub refuses-nothing : fit ≡ true → p .retry ≤ most-retry → 0 ≡ refusal (asksBelow count me p)
+    refuses-nothing e l = sym (by-tests ∙ rw (lt-ltb me count me-fits, lt-ltb (p .dst) count dst-fits, e, le-leb (p .retry) most-retry l))
 
 pub refuses-uid : (count me : ℕ) (p : Packet) → count ≤ me → 2 ≡ refusal (asksBelow count me p)
 refuses-uid count me p l = sym (by-tests count me p (either (not (p .«has_proxy»)) (ltb (p .proxy) count)) refl ∙ rw (le-ltb me count l))
@@ -77,7 +77,7 @@ unrefused h bytes table me p z =
       packet = record {
         dst-fits = ltb-true (p .dst) (servers h) (b .1 .0);
         proxy-fits = λ q. ltb-true (p .proxy) (servers h) (proxy-below (p .«has_proxy») (ltb (p .proxy) (servers h)) (b .1 .1 .0) q);
-        retry-fits = leb-true (p .retry) 15 (b .1 .1 .1 .0);
+        retry-fits = leb-true (p .retry) most-retry (b .1 .1 .1 .0);
       };
     }
 

@@ -8,6 +8,7 @@ use lib.Dec.{eqb}
 use lib.ListN.{length, set, replicate, length-append}
 use lib.Seq.{set-at}
 use borrow.Author.Tests.{eq-eqb, ne-eqb}
+use Rattle.hall.specs.Refusals.{most-retry}
 use Rattle.hall.specs.declared.Hall.{Hall}
 use Rattle.hall.proofs.Growth.{valid-known}
 use Rattle.ports.specs.Codes.{part}
@@ -52,7 +53,7 @@ module _ (h : Hall) (table : List ℕ) (me : ℕ) (p : Packet) (a : Departing h 
     step-is o q = q ∙ ap (λ (l : List ℕ). step h l me p) (e ∙ part-whole)
 
   module _ (o : Step) (q : o ≡ stepAt h table me p) where
-    pub step-few : o .reroutes ≤ 15
+    pub step-few : o .reroutes ≤ most-retry
     step-few =
         let r = reroutes-few h (sight h table me) me (tidied p) in
         let t = tidied-retry p in
@@ -114,7 +115,7 @@ pub record Underway (h : Hall) (table : List ℕ) (source : ℕ) (packet : Packe
   pub count : length filled ≡ at
   pub room : uids ≡ filled ++ replicate (most-passed - at) 0
   pub left : at + p .ttl ≤ 255
-  pub few : reroutes ≤ 15 * at
+  pub few : reroutes ≤ most-retry * at
   pub departing : Departing h table me p
   pub whole : trip h table source packet ≡ behind filled at reroutes (trip h table me p)
 

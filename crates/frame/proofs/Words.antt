@@ -10,7 +10,7 @@ use lib.ListN.{length, getD, take, drop, length-append, List·getD-append}
 use lib.Seq.{getD-append-add, take-add, take-suc, drop-cons}
 use borrow.Author.Tests.{eqb-true, eqb-false}
 use Rattle.combine.proofs.Tests.{cases}
-use Rattle.words.specs.Words.{bigEndian, wordsBytes}
+use Rattle.words.specs.Words.{Bytes, bigEndian, wordsBytes}
 use Rattle.words.proofs.Words.{words-last}
 use Rattle.frame.specs.Layout.{wordAt, bytesOf}
 
@@ -37,14 +37,10 @@ word-split word h =
     split : (p q r s y z x : ℕ) → x ≡ p * 16777216 + y → y ≡ q * 65536 + z → z ≡ r * 256 + s → p * 16777216 + q * 65536 + r * 256 + s ≡ x
     split p q r s y z x a b c = omega arith
 
--- a run of bytes
-abbrev pub Bytes : List ℕ → Type 0
-Bytes frame = (i : ℕ) → getD frame i 0 < 256
-
 -- a word of bytes fits 32 bits
 pub word-fits : (frame : List ℕ) → Bytes frame → (i : ℕ) → wordAt frame i < 4294967296
 unfolding wordAt
-word-fits frame fit i = omega (arith, fit (4 * i), fit (4 * i + 1), fit (4 * i + 2), fit (4 * i + 3))
+word-fits frame fit i = omega (arith, fit .below (4 * i), fit .below (4 * i + 1), fit .below (4 * i + 2), fit .below (4 * i + 3))
 
 pub bytes-length : (words : ℕ → ℕ) (n : ℕ) → length (bytesOf words n) ≡ 4 * n
 unfolding bytesOf
@@ -121,7 +117,7 @@ bytes-read frame fit zero h = refl
 bytes-read frame fit (suc n) h =
     let e : 4 * suc n ≡ 4 * n + 4 = omega arith in
     let w : bigEndian (wordAt frame n) ≡ take 4 (drop (4 * n) frame) =
-    four-bytes (getD frame (4 * n) 0) (getD frame (4 * n + 1) 0) (getD frame (4 * n + 2) 0) (getD frame (4 * n + 3) 0) (fit (4 * n)) (fit (4 * n + 1)) (fit (4 * n + 2)) (fit (4 * n + 3))
+    four-bytes (getD frame (4 * n) 0) (getD frame (4 * n + 1) 0) (getD frame (4 * n + 2) 0) (getD frame (4 * n + 3) 0) (fit .below (4 * n)) (fit .below (4 * n + 1)) (fit .below (4 * n + 2)) (fit .below (4 * n + 3))
     ∙ sym (take-four frame (4 * n) (omega arith)) in
     rw (e, take-add (4 * n) 4 frame, bytes-read frame fit n (omega arith), w)
 

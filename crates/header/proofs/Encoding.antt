@@ -18,7 +18,8 @@ use Rattle.frame.specs.Asks.{frameRefusal}
 use Rattle.frame.specs.Reading.{headerOf, readFrame}
 use Rattle.frame.proofs.Sums.{checksum-cong}
 use Rattle.frame.proofs.Rows.{rows-sound, values-read, parts-in}
-use Rattle.frame.proofs.Words.{Bytes, word-fits, bytes-cong, bytes-read}
+use Rattle.words.specs.Words.{Bytes}
+use Rattle.frame.proofs.Words.{word-fits, bytes-cong, bytes-read}
 use Rattle.frame.proofs.Frames.{SoundFrame, accepted-sound, accepted-read}
 use Rattle.header.specs.declared.Fields.{Fields}
 use Rattle.header.specs.Writing.{countOf, valuesOf, sumOf, sealed, headerWords, headerBytes, writeRefusal, fieldsOf}

@@ -16,7 +16,8 @@ use Rattle.frame.specs.Checksum.{halves, checksumOf, checksumPlace, headerCheck
 use Rattle.frame.specs.Asks.{frameRefusal}
 use Rattle.frame.proofs.Sums.{halves-upper, halves-lower, halves-fit}
 use Rattle.frame.proofs.Rows.{words-fit, version-in, DHL-in, flags-in, checksum-in}
-use Rattle.frame.proofs.Words.{Bytes, word-fits}
+use Rattle.words.specs.Words.{Bytes}
+use Rattle.frame.proofs.Words.{word-fits}
 use Rattle.frame.proofs.Frames.{SoundFrame, accepted-sound}
 use Rattle.header.proofs.Changes.{checksum-not-ones, change-seen}
 
@@ -72,10 +73,10 @@ pub half-bytes : (frame : List ℕ) → Bytes frame → (j : ℕ) → halves (wo
 unfolding halves wordAt
 half-bytes frame fit j =
     let k : ℕ = j / 2 in
-    let b₀ = fit (4 * k) in
-    let b₁ = fit (4 * k + 1) in
-    let b₂ = fit (4 * k + 2) in
-    let b₃ = fit (4 * k + 3) in
+    let b₀ = fit .below (4 * k) in
+    let b₁ = fit .below (4 * k + 1) in
+    let b₂ = fit .below (4 * k + 2) in
+    let b₃ = fit .below (4 * k + 3) in
     cases (eqb (j % 2) 0)
     (λ q.
     let z : j % 2 ≡ 0 = eqb-true (j % 2) 0 q in
@@ -93,12 +94,15 @@ unfoldable pub changed : List ℕ → ℕ → ℕ → ℕ → List ℕ
 changed frame i high low = set (set frame (2 * i) high) (2 * i + 1) low
 
 -- a byte set in a run of bytes
+set-below : (frame : List ℕ) (i byte : ℕ) → ((j : ℕ) → getD frame j 0 < 256) → byte < 256 → (j : ℕ) → getD (set frame i byte) j 0 < 256
+set-below [] i byte fit h j = omega arith
+set-below (x ∷ frame) zero byte fit h zero = h
+set-below (x ∷ frame) zero byte fit h (suc j) = fit (suc j)
+set-below (x ∷ frame) (suc i) byte fit h zero = fit zero
+set-below (x ∷ frame) (suc i) byte fit h (suc j) = set-below frame i byte (λ k. fit (suc k)) h j
+
 set-bytes : (frame : List ℕ) (i byte : ℕ) → Bytes frame → byte < 256 → Bytes (set frame i byte)
-set-bytes [] i byte fit h j = omega arith
-set-bytes (x ∷ frame) zero byte fit h zero = h
-set-bytes (x ∷ frame) zero byte fit h (suc j) = fit (suc j)
-set-bytes (x ∷ frame) (suc i) byte fit h zero = fit zero
-set-bytes (x ∷ frame) (suc i) byte fit h (suc j) = set-bytes frame i byte (λ k. fit (suc k)) h j
+set-bytes frame i byte fit h = record { below = set-below frame i byte (fit .below) h }
 
 module _ (frame : List ℕ) (fit : Bytes frame) (i high low : ℕ) (h : high < 256) (l : low < 256) where
   changed-bytes : Bytes (changed frame i high low)

@@ -7,6 +7,7 @@ use Prim.Native.Nat.{ℕ, _*_, _≤_, _<_}
 use native.Mathlib.Omega.{arith}
 use lib.ListN.{length, length-append}
 use lib.Seq.{take-at, drop-at}
+use Rattle.hall.specs.Refusals.{most-retry}
 use Rattle.combine.specs.Tests.{pick}
 use Rattle.combine.proofs.Tests.{cases}
 use Rattle.rows.specs.Rows.{has, within, keptBy, Each, Below}
@@ -44,7 +45,7 @@ module _ (fields : Fields) where
   unfolding keptBy sealed valuesOf within has moreOf addressesFit
   addresses-kept = cases (fields .«has_proxy») (λ q. rw q) (λ q. rw q)
 
-module _ (fields : Fields) (typed : Typed fields) (retried : fields .retry ≤ 15) where
+module _ (fields : Fields) (typed : Typed fields) (retried : fields .retry ≤ most-retry) where
   proxy-fitting : Each (Below (sealed fields)) (moreOf (fields .«has_proxy»))
   unfolding moreOf sealed valuesOf
   proxy-fitting = cases (fields .«has_proxy») (λ q. rw q ((typed .proxy, tt), tt)) (λ q. rw q tt)

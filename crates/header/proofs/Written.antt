@@ -12,7 +12,7 @@ use Rattle.combine.specs.Tests.{pick}
 use Rattle.combine.specs.Lists.{upTo}
 use Rattle.combine.proofs.Tests.{cases}
 use Rattle.combine.proofs.Lists.{getD-upTo, length-upTo}
-use Rattle.hall.specs.Refusals.{refusal}
+use Rattle.hall.specs.Refusals.{refusal, most-retry}
 use Rattle.rows.specs.Rows.{bits, has, within, joined, laid}
 use Rattle.rows.proofs.Rows.{laid-cong, laid-front, row-within}
 use Rattle.frame.specs.Layout.{retry, flags, TTL, checksum, proxy, moreOf, rowsOf, wordsWith, bytesOf}
@@ -163,42 +163,42 @@ module _ (fields : Fields) (room : List ℕ) where
   unfolding roomWritten
   refused-room number e d = (e, rw (← e, ne-eqb number 0 d))
 
-  pub write-retry : 15 < fields .retry → (8 ≡ writeRefusal fields room) × (room ≡ roomWritten fields room)
+  pub write-retry : most-retry < fields .retry → (8 ≡ writeRefusal fields room) × (room ≡ roomWritten fields room)
   unfolding writeRefusal refusal
-  write-retry h = refused-room 8 (rw (lt-leb (fields .retry) 15 h)) (λ z. omega arith)
+  write-retry h = refused-room 8 (rw (lt-leb (fields .retry) most-retry h)) (λ z. omega arith)
 
-  module _ (h : fields .retry ≤ 15) where
+  module _ (h : fields .retry ≤ most-retry) where
     pub write-address : addressesFit (fields .source) (fields .destination) (fields .«has_proxy») (fields .proxy) ≡ false
         → (11 ≡ writeRefusal fields room) × (room ≡ roomWritten fields room)
     unfolding writeRefusal refusal
-    write-address q = refused-room 11 (rw (le-leb (fields .retry) 15 h, q)) (λ z. omega arith)
+    write-address q = refused-room 11 (rw (le-leb (fields .retry) most-retry h, q)) (λ z. omega arith)
 
     module _ (q : addressesFit (fields .source) (fields .destination) (fields .«has_proxy») (fields .proxy) ≡ true) where
       pub write-short : length room < 4 * countOf fields → (6 ≡ writeRefusal fields room) × (room ≡ roomWritten fields room)
       unfolding writeRefusal refusal
-      write-short l = refused-room 6 (rw (le-leb (fields .retry) 15 h, q, lt-leb (4 * countOf fields) (length room) l)) (λ z. omega arith)
+      write-short l = refused-room 6 (rw (le-leb (fields .retry) most-retry h, q, lt-leb (4 * countOf fields) (length room) l)) (λ z. omega arith)
 
       pub write-done : 4 * countOf fields ≤ length room
           → (0 ≡ writeRefusal fields room) × (headerBytes fields ++ drop (4 * countOf fields) room ≡ roomWritten fields room)
       unfolding roomWritten writeRefusal refusal
       write-done l =
-          let e : 0 ≡ writeRefusal fields room = rw (le-leb (fields .retry) 15 h, q, le-leb (4 * countOf fields) (length room) l) in
+          let e : 0 ≡ writeRefusal fields room = rw (le-leb (fields .retry) most-retry h, q, le-leb (4 * countOf fields) (length room) l) in
           (e, rw (← e))
 
   -- what is not refused: a retry that the header can say, addresses of their kinds, and room
   pub write-accepted : writeRefusal fields room ≡ 0
-      → (fields .retry ≤ 15) × (addressesFit (fields .source) (fields .destination) (fields .«has_proxy») (fields .proxy) ≡ true) × (4 * countOf fields ≤ length room)
+      → (fields .retry ≤ most-retry) × (addressesFit (fields .source) (fields .destination) (fields .«has_proxy») (fields .proxy) ≡ true) × (4 * countOf fields ≤ length room)
   write-accepted e =
-      cases (leb (fields .retry) 15)
+      cases (leb (fields .retry) most-retry)
       (λ a.
-      let h = leb-true (fields .retry) 15 a in
+      let h = leb-true (fields .retry) most-retry a in
       cases (addressesFit (fields .source) (fields .destination) (fields .«has_proxy») (fields .proxy))
       (λ q.
       cases (leb (4 * countOf fields) (length room))
       (λ l. (h, q, leb-true (4 * countOf fields) (length room) l))
       (λ l. absurd (omega (arith, e, write-short h q (leb-false (4 * countOf fields) (length room) l) .0))))
       (λ q. absurd (omega (arith, e, write-address h q .0))))
-      (λ a. absurd (omega (arith, e, write-retry (leb-false (fields .retry) 15 a) .0)))
+      (λ a. absurd (omega (arith, e, write-retry (leb-false (fields .retry) most-retry a) .0)))
 
   -- the room then begins with the header
   pub room-begins : writeRefusal fields room ≡ 0 → roomWritten fields room ≡ headerBytes fields ++ drop (4 * countOf fields) room

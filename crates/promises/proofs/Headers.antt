@@ -39,12 +39,12 @@ header-round-trip fields room payload padding t e stated =
 pub header-written-again : WrittenAgain
 header-written-again frame room bytes e long =
     let z = frame-accepted frame e in
-    let ok = written-again frame (bytes .below) z room long in
+    let ok = written-again frame bytes z room long in
     let given : Fields = fieldsOf (readFrame frame) in
     record {
       not-refused = ok;
       same-bytes =
-          ap (λ (n : ℕ). take n (roomWritten given room)) (length-again frame (bytes .below) z)
+          ap (λ (n : ℕ). take n (roomWritten given room)) (length-again frame bytes z)
           ∙ header-first given (drop (4 * countOf given) room) (roomWritten given room) (room-begins given room ok)
-          ∙ sym (one-encoding frame (bytes .below) z);
+          ∙ sym (one-encoding frame bytes z);
     }

@@ -13,7 +13,7 @@ use borrow.Author.Tests.{leb-true, le-leb, eqb-true, ltb-true, ltb-false}
 use Rattle.combine.specs.Tests.{pick}
 use Rattle.combine.proofs.Tests.{cases, never}
 use Rattle.hall.specs.declared.Hall.{Hall}
-use Rattle.hall.specs.Halls.{nFits, kFits, bFits, valid, servers}
+use Rattle.hall.specs.Halls.{hallOf, nFits, kFits, bFits, valid, servers}
 use Rattle.hall.specs.Refusals.{bad-hall, bad-length}
 use Rattle.ports.specs.Codes.{known, tableLength, up, codeOf}
 use Rattle.ports.proofs.Tables.{up-is-one, one-is-up}
@@ -22,7 +22,7 @@ use Rattle.sheet.specs.declared.Field.the-variants.{Value, Refused}
 use Rattle.words.specs.Words.{value, Bytes}
 use Rattle.sheet.specs.Formats.{Format, and-then, read}
 use Rattle.sheet.specs.Sheets.{longest, count, number-n, number-k, number-b, packet, tablesOf, nightSheet}
-use Rattle.sheet.specs.Answers.{countPlace, codesPlace, codeCountOf, hallOf, acceptedAs, sheetOf}
+use Rattle.sheet.specs.Answers.{countPlace, codesPlace, codeCountOf, hallIn, acceptedAs, sheetOf}
 use Rattle.sheet.proofs.Reading.{onward, read-then, then-refused, field-read}
 use Rattle.sheet.proofs.Places.{codes-behind, count-place}
 use Rattle.sheet.proofs.Accepted.{field-then, packet-read}
@@ -94,11 +94,11 @@ head-held s v next e =
     let k = field-then 1 (kFits (value s 4 1)) bad-hall _ s 5 v next (n .2) in
     let b = field-then 1 (bFits (value s 5 1)) bad-hall _ s 6 v next (k .2) in
     let first = eqb-true (value s 0 4) 3 (a .1) in
-    let t = field-read 4 (λ x. eqb x (tableLength (hallOf s))) bad-length s (countPlace s) v next (rw (count-place s first) (b .2)) in
+    let t = field-read 4 (λ x. eqb x (tableLength (hallIn s))) bad-length s (countPlace s) v next (rw (count-place s first) (b .2)) in
     record {
       first = first;
       hall = rw (n .1, k .1, b .1);
-      second = eqb-true (codeCountOf s) (tableLength (hallOf s)) (sym (ap (λ (x : ℕ). eqb x (tableLength (hallOf s))) (t .2)) ∙ t .1);
+      second = eqb-true (codeCountOf s) (tableLength (hallIn s)) (sym (ap (λ (x : ℕ). eqb x (tableLength (hallIn s))) (t .2)) ∙ t .1);
       there = omega (arith, t .0, codes-behind s);
     }
 
@@ -118,33 +118,33 @@ pub head-refused : (s : List ℕ) (number place : ℕ) → read headSheet s 0 �
 unfolding headSheet nightSheet tablesOf
 head-refused s number place =
     then-alike (count 3) _ _ s 0 number place (λ v a. then-alike number-n _ _ s a number place (λ n a. then-alike (number-k n) _ _ s a number place
-    (λ k a. then-alike (number-b k) _ _ s a number place (λ b a. then-refused (count (tableLength (record { n = n; k = k; b = b }))) _ s a number place))))
+    (λ k a. then-alike (number-b k) _ _ s a number place (λ b a. then-refused (count (tableLength (hallOf n k b))) _ s a number place))))
 
 -- the rebuilt sheet is accepted, and is read to the mended codes and the kept packets
 module _ (s : List ℕ) (b : Bytes s) (head : HeadHeld s) where
-  pub kept-held : Held (codesMended (hallOf s) s) (kept (hallOf s) s)
+  pub kept-held : Held (codesMended (hallIn s) s) (kept (hallIn s) s)
   unfolding kept
   kept-held = record {
-    bytes = mended-all (λ c. c < 256) known-byte (hallOf s) s;
-    fields = every-those PacketHeld (keeps (hallOf s) s) (λ i. packetPart s (packetThere (hallOf s) s i)) (λ i e. part-held s b (packetThere (hallOf s) s i)) 0 (begun (hallOf s) s);
+    bytes = mended-all (λ c. c < 256) known-byte (hallIn s) s;
+    fields = every-those PacketHeld (keeps (hallIn s) s) (λ i. packetPart s (packetThere (hallIn s) s i)) (λ i e. part-held s b (packetThere (hallIn s) s i)) 0 (begun (hallIn s) s);
   }
 
-  rebuilt-sound : Sound (filledSheet (hallOf s) (codesMended (hallOf s) s) (kept (hallOf s) s))
+  rebuilt-sound : Sound (filledSheet (hallIn s) (codesMended (hallIn s) s) (kept (hallIn s) s))
   unfolding kept
   rebuilt-sound =
-      sheet-sound (hallOf s) (codesMended (hallOf s) s) (kept (hallOf s) s) (head .hall) (mended-long (hallOf s) s)
-      (mended-all (λ c. known c ≡ true) (λ c e. e) (hallOf s) s)
-      (every-those (PacketSound (servers (hallOf s))) (keeps (hallOf s) s) (λ i. packetPart s (packetThere (hallOf s) s i)) (kept-sound (hallOf s) s) 0 (begun (hallOf s) s))
+      sheet-sound (hallIn s) (codesMended (hallIn s) s) (kept (hallIn s) s) (head .hall) (mended-long (hallIn s) s)
+      (mended-all (λ c. known c ≡ true) (λ c e. e) (hallIn s) s)
+      (every-those (PacketSound (servers (hallIn s))) (keeps (hallIn s) s) (λ i. packetPart s (packetThere (hallIn s) s i)) (kept-sound (hallIn s) s) 0 (begun (hallIn s) s))
 
-  module _ (short : length (rebuilt (hallOf s) s) ≤ longest) where
-    said : writerSays (hallOf s) (codesMended (hallOf s) s) (kept (hallOf s) s) .refusal ≡ 0
-    said = ap (λ x. x .refusal) (writer-accepts (hallOf s) (codesMended (hallOf s) s) (kept (hallOf s) s) short rebuilt-sound)
+  module _ (short : length (rebuilt (hallIn s) s) ≤ longest) where
+    said : writerSays (hallIn s) (codesMended (hallIn s) s) (kept (hallIn s) s) .refusal ≡ 0
+    said = ap (λ x. x .refusal) (writer-accepts (hallIn s) (codesMended (hallIn s) s) (kept (hallIn s) s) short rebuilt-sound)
 
-    pub rebuilt-accepted : sheetOf (rebuilt (hallOf s) s) ≡ acceptedAs (hallOf s) (length (kept (hallOf s) s))
-    rebuilt-accepted = reads-back (hallOf s) (codesMended (hallOf s) s) (kept (hallOf s) s) kept-held said
+    pub rebuilt-accepted : sheetOf (rebuilt (hallIn s) s) ≡ acceptedAs (hallIn s) (length (kept (hallIn s) s))
+    rebuilt-accepted = reads-back (hallIn s) (codesMended (hallIn s) s) (kept (hallIn s) s) kept-held said
 
-    pub rebuilt-codes : codesOf (rebuilt (hallOf s) s) ≡ codesMended (hallOf s) s
-    rebuilt-codes = codes-back (hallOf s) (codesMended (hallOf s) s) (kept (hallOf s) s) kept-held said
+    pub rebuilt-codes : codesOf (rebuilt (hallIn s) s) ≡ codesMended (hallIn s) s
+    rebuilt-codes = codes-back (hallIn s) (codesMended (hallIn s) s) (kept (hallIn s) s) kept-held said
 
 -- no code becomes 1 that was not
 mended-one : (c : ℕ) → mended c ≡ 1 → c ≡ 1

@@ -13,7 +13,7 @@ use Rattle.sheet.specs.declared.Field.{Field}
 use Rattle.sheet.specs.declared.Field.the-variants.{Value, Refused}
 use Rattle.sheet.specs.Formats.{read}
 use Rattle.sheet.specs.Sheets.{longest}
-use Rattle.sheet.specs.Answers.{hallOf, sheetOf}
+use Rattle.sheet.specs.Answers.{hallIn, sheetOf}
 use Rattle.sheet.proofs.Sheets.{sheet-long, sheet-refused}
 use Rattle.sheet.proofs.Held.{accepted-holds}
 use Rattle.sheetparts.specs.Parts.{codesOf}
@@ -37,20 +37,20 @@ salvage-long s h = rw (lt-ltb longest (length s) h) (sym (sheet-long s h))
 
 module _ (s : List ℕ) (b : Bytes s) where
   -- the rebuilt sheet is read as the salvage says
-  pub salvaged-accepted : salvageSays s .refusal ≡ 0 → sheetOf (rebuilt (hallOf s) s) ≡ salvageSays s
+  pub salvaged-accepted : salvageSays s .refusal ≡ 0 → sheetOf (rebuilt (hallIn s) s) ≡ salvageSays s
   salvaged-accepted ok =
       cases (ltb longest (length s))
       (λ q. let e = salvage-long s (ltb-true longest (length s) q) in
       ap sheetOf (sound-unchanged s b (ap (λ x. x .refusal) (sym e) ∙ ok)) ∙ sym e)
       (λ q. by (ltb-false longest (length s) q) (read headSheet s 0) refl)
     where
-      by : length s ≤ longest → (r : Field) → read headSheet s 0 ≡ r → sheetOf (rebuilt (hallOf s) s) ≡ salvageSays s
+      by : length s ≤ longest → (r : Field) → read headSheet s 0 ≡ r → sheetOf (rebuilt (hallIn s) s) ≡ salvageSays s
       by short (Refused number place) d =
           let e = salvage-refused s short number place d in
           ap sheetOf (sound-unchanged s b (ap (λ x. x .refusal) (sym e) ∙ ok)) ∙ sym e
       by short (Value v next) d =
           let e = said-by s short in
-          let l = length (rebuilt (hallOf s) s) in
+          let l = length (rebuilt (hallIn s) s) in
           cases (ltb longest l)
           (λ q. let z : _≡_ {A = ℕ} 10 0 = rw (e, d, q) at ok in absurd (omega arith))
           (λ q. rebuilt-accepted s b (head-held s v next d) (ltb-false longest l q) ∙ rw (e, d, q))
@@ -64,31 +64,31 @@ module _ (s : List ℕ) (b : Bytes s) where
       by (Value v next) d =
           let a = accepted-holds s ok in
           let u = sound-unchanged s b ok in
-          let l : length (rebuilt (hallOf s) s) ≤ longest = rw u (a .short) in
-          said-by s (a .short) ∙ rw (d, le-ltb longest (length (rebuilt (hallOf s) s)) l) (sym (rebuilt-accepted s b (head-held s v next d) l) ∙ ap sheetOf u)
+          let l : length (rebuilt (hallIn s) s) ≤ longest = rw u (a .short) in
+          said-by s (a .short) ∙ rw (d, le-ltb longest (length (rebuilt (hallIn s) s)) l) (sym (rebuilt-accepted s b (head-held s v next d) l) ∙ ap sheetOf u)
 
   -- what is salvaged has a sound head, and is not too long
-  pub said-head : salvageSays s .refusal ≡ 0 → HeadHeld s × (length (rebuilt (hallOf s) s) ≤ longest)
+  pub said-head : salvageSays s .refusal ≡ 0 → HeadHeld s × (length (rebuilt (hallIn s) s) ≤ longest)
   said-head ok =
       cases (ltb longest (length s))
       (λ q. sound (ap (λ x. x .refusal) (sym (salvage-long s (ltb-true longest (length s) q))) ∙ ok))
       (λ q. by (ltb-false longest (length s) q) (read headSheet s 0) refl)
     where
-      sound : sheetOf s .refusal ≡ 0 → HeadHeld s × (length (rebuilt (hallOf s) s) ≤ longest)
+      sound : sheetOf s .refusal ≡ 0 → HeadHeld s × (length (rebuilt (hallIn s) s) ≤ longest)
       sound e = (sound-head s b e, rw (sound-unchanged s b e) (accepted-holds s e .short))
 
-      by : length s ≤ longest → (r : Field) → read headSheet s 0 ≡ r → HeadHeld s × (length (rebuilt (hallOf s) s) ≤ longest)
+      by : length s ≤ longest → (r : Field) → read headSheet s 0 ≡ r → HeadHeld s × (length (rebuilt (hallIn s) s) ≤ longest)
       by short (Refused number place) d = sound (ap (λ x. x .refusal) (sym (salvage-refused s short number place d)) ∙ ok)
       by short (Value v next) d =
           let e = said-by s short in
-          let l = length (rebuilt (hallOf s) s) in
+          let l = length (rebuilt (hallIn s) s) in
           cases (ltb longest l)
           (λ q. let z : _≡_ {A = ℕ} 10 0 = rw (e, d, q) at ok in absurd (omega arith))
           (λ q. (head-held s v next d, ltb-false longest l q))
 
   -- no port is up in the rebuilt sheet that was not
   pub salvaged-no-new-up : salvageSays s .refusal ≡ 0 → (server port : ℕ)
-      → up (hallOf s) (codesOf (rebuilt (hallOf s) s)) server port ≡ true → up (hallOf s) (codesThere (hallOf s) s) server port ≡ true
+      → up (hallIn s) (codesOf (rebuilt (hallIn s) s)) server port ≡ true → up (hallIn s) (codesThere (hallIn s) s) server port ≡ true
   salvaged-no-new-up ok server port e =
       let a = said-head ok in
-      no-new-up (hallOf s) s server port (rw (rebuilt-codes s b (a .0) (a .1)) at e)
+      no-new-up (hallIn s) s server port (rw (rebuilt-codes s b (a .0) (a .1)) at e)

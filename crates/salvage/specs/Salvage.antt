@@ -8,7 +8,7 @@ use lib.Dec.{eqb, ltb}
 use lib.ListN.{length, getD, take, drop, replicate}
 use Rattle.combine.specs.Tests.{pick, both}
 use Rattle.hall.specs.declared.Hall.{Hall}
-use Rattle.hall.specs.Halls.{valid, servers}
+use Rattle.hall.specs.Halls.{hallOf, valid, servers}
 use Rattle.hall.specs.Refusals.{bad-sheet}
 use Rattle.ports.specs.Codes.{not-fitted, code-down, known, tableLength}
 use Rattle.sheet.specs.declared.Field.{Field}
@@ -17,7 +17,7 @@ use Rattle.sheet.specs.declared.Sheet.{Sheet}
 use Rattle.words.specs.Words.{value, wordAt}
 use Rattle.sheet.specs.Formats.{Format, and-then, read}
 use Rattle.sheet.specs.Sheets.{longest, count, number-n, number-k, number-b, packet}
-use Rattle.sheet.specs.Answers.{codesPlace, codeCountOf, hallOf, refusedAt}
+use Rattle.sheet.specs.Answers.{codesPlace, codeCountOf, hallIn, refusedAt}
 use Rattle.sheetparts.specs.declared.SheetPacket.{SheetPacket}
 use Rattle.sheetparts.specs.Parts.{packetPart}
 use Rattle.writing.specs.Writing.{sheetFor, toldFor}
@@ -26,13 +26,13 @@ use Rattle.writing.specs.Writing.{sheetFor, toldFor}
 unfoldable pub headSheet : Format
 headSheet =
     and-then (count 3) (λ v. and-then number-n (λ n. and-then (number-k n) (λ k. and-then (number-b k) (λ b.
-    count (tableLength (record { n = n; k = k; b = b }))))))
+    count (tableLength (hallOf n k b))))))
 
 -- what a sound first section and second count say
 pub record HeadHeld (s : List ℕ) : Type 0 where
   pub first : value s 0 4 ≡ 3
-  pub hall : valid (hallOf s) ≡ true
-  pub second : codeCountOf s ≡ tableLength (hallOf s)
+  pub hall : valid (hallIn s) ≡ true
+  pub second : codeCountOf s ≡ tableLength (hallIn s)
   pub there : codesPlace s ≤ length s
 
 -- 2 for a code that the reader would refuse
@@ -104,8 +104,8 @@ changes h s = map (changeAt h s) (those (changed h s) (codesPlace s) (tableLengt
 abbrev pub salvagedAs : List ℕ → Field → Sheet
 salvagedAs s (Refused number place) = refusedAt number place
 salvagedAs s (Value v next) =
-    pick (ltb longest (length (rebuilt (hallOf s) s))) (refusedAt bad-sheet longest)
-    (toldFor (hallOf s) (Value (length (kept (hallOf s) s)) 0))
+    pick (ltb longest (length (rebuilt (hallIn s) s))) (refusedAt bad-sheet longest)
+    (toldFor (hallIn s) (Value (length (kept (hallIn s) s)) 0))
 
 -- the reader's refusal of the head; 10 where the input, told first, or the rebuilt sheet is too long
 unfoldable pub salvageSays : List ℕ → Sheet

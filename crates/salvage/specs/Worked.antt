@@ -6,7 +6,7 @@ use mathlib.Core.List.{[], _∷_}
 use lib.ListN.{take}
 use Rattle.hall.specs.declared.Hall.{Hall}
 use Rattle.hall.specs.Cells.{t}
-use Rattle.hall.specs.Halls.{nFits, kFits, bFits, servers}
+use Rattle.hall.specs.Halls.{hallOf, nFits, kFits, bFits, servers}
 use Rattle.ports.specs.Codes.{known, tableLength}
 use Rattle.words.specs.Words.{value, wordAt, bytesOf}
 use Rattle.sheet.specs.Formats.{read, and-then}
@@ -19,7 +19,7 @@ use Rattle.writing.specs.Writing.{filledPacket, filledSheet}
 use Rattle.salvage.specs.Salvage.{headSheet, mended, codesMended, begun, keeps, those, kept, leftOut, rebuilt, changed, changes, salvageSays}
 
 abbrev hall : Hall
-hall = record { n = 4; k = 1; b = 0 }
+hall = hallOf 4 1 0
 
 -- an unknown code at two bytes, and a surplus
 codes-mended : rebuilt hall (sheetWith 9 (1 ∷ 2 ∷ [])) ≡ sheetWith 2 []

@@ -18,7 +18,7 @@ use Rattle.sheet.specs.declared.Field.the-variants.{Value, Refused}
 use Rattle.words.specs.Words.{value}
 use Rattle.sheet.specs.Formats.{read}
 use Rattle.sheet.specs.Sheets.{longest, code, retry, codes, packet, packets, tablesOf, nightSheet}
-use Rattle.sheet.specs.Answers.{countPlace, codesPlace, codeCountOf, hallOf, acceptedAs, sheetOf, packetPlace}
+use Rattle.sheet.specs.Answers.{countPlace, codesPlace, codeCountOf, hallIn, acceptedAs, sheetOf, packetPlace}
 use Rattle.sheet.specs.Accepted.{packetCountOf, PacketFits, Accepted}
 use Rattle.sheet.proofs.Reading.{placeOf, read-done, field-read, field-sound, then-value, within}
 use Rattle.sheet.proofs.Sheets.{sheet-long, sheet-refused, sheet-surplus, sheet-read}
@@ -86,8 +86,8 @@ module _ (h : Hall) (s : List ℕ) (at v end : ℕ) (e : read (tablesOf h) s at 
 module _ (s : List ℕ) (v end : ℕ) (e : read nightSheet s 0 ≡ Value v end) where
   pub record Whole : Type 0 where
     pub first : value s 0 4 ≡ 3
-    pub hall : valid (hallOf s) ≡ true
-    pub tables : Tables (hallOf s) s (countPlace s) end
+    pub hall : valid (hallIn s) ≡ true
+    pub tables : Tables (hallIn s) s (countPlace s) end
 
   pub whole-read : Whole
   unfolding nightSheet valid
@@ -100,7 +100,7 @@ module _ (s : List ℕ) (v end : ℕ) (e : read nightSheet s 0 ≡ Value v end) 
       record {
         first = first;
         hall = rw (n .1, k .1, b .1);
-        tables = tables-held (hallOf s) s (countPlace s) v end (rw (count-place s first) (b .2));
+        tables = tables-held (hallIn s) s (countPlace s) v end (rw (count-place s first) (b .2));
       }
 
 -- an accepted sheet holds what it should
@@ -140,24 +140,24 @@ module _ (s : List ℕ) (a : Accepted s) where
       ))
       ∙ ap (λ (m : ℕ). Value 0 m) w
 
-  packets-read : read (packets (servers (hallOf s)) (packetCountOf s)) s (codesPlace s + codeCountOf s + 4) ≡ Value 0 (length s)
+  packets-read : read (packets (servers (hallIn s)) (packetCountOf s)) s (codesPlace s + codeCountOf s + 4) ≡ Value 0 (length s)
   unfolding packetPlace
   packets-read =
       let l = long in
-      rw l (times-all (packet (servers (hallOf s))) 10 s (packet-width (servers (hallOf s)) s) (packetCountOf s) (codesPlace s + codeCountOf s + 4) (λ i b.
+      rw l (times-all (packet (servers (hallIn s))) 10 s (packet-width (servers (hallIn s)) s) (packetCountOf s) (codesPlace s + codeCountOf s + 4) (λ i b.
       let f = a .packets i b in
       let at = codesPlace s + codeCountOf s + 4 + 10 * i in
-      (value s (at + 9) 1, at + 10, packet-sound (servers (hallOf s)) s at (f .source) (f .dst) (f .retry) (omega arith))))
+      (value s (at + 9) 1, at + 10, packet-sound (servers (hallIn s)) s at (f .source) (f .dst) (f .retry) (omega arith))))
 
-  tables-read : read (tablesOf (hallOf s)) s (countPlace s) ≡ Value (packetCountOf s) (length s)
+  tables-read : read (tablesOf (hallIn s)) s (countPlace s) ≡ Value (packetCountOf s) (length s)
   unfolding tablesOf packetCountOf codesPlace
   tables-read =
       let l = long in
       let third = codesPlace s + codeCountOf s in
-      then-sound 4 (λ x. eqb x (tableLength (hallOf s))) bad-length _ s (countPlace s) (omega arith) (eq-eqb (codeCountOf s) (tableLength (hallOf s)) (a .second))
+      then-sound 4 (λ x. eqb x (tableLength (hallIn s))) bad-length _ s (countPlace s) (omega arith) (eq-eqb (codeCountOf s) (tableLength (hallIn s)) (a .second))
       ∙ then-value (codes (codeCountOf s)) _ s (codesPlace s) 0 third codes-read
       ∙ then-sound 4 (λ x. true) 0 _ s third (omega arith) refl
-      ∙ then-value (packets (servers (hallOf s)) (value s third 4)) _ s (third + 4) 0 (length s) packets-read
+      ∙ then-value (packets (servers (hallIn s)) (value s third 4)) _ s (third + 4) 0 (length s) packets-read
       ∙ read-done (value s third 4) s (length s)
 
   held-read : read nightSheet s 0 ≡ Value (packetCountOf s) (length s)
@@ -165,7 +165,7 @@ module _ (s : List ℕ) (a : Accepted s) where
   held-read =
       let l = long in
       let c = codes-place s (a .first) in
-      let h = hall-fields (hallOf s) (a .hall) in
+      let h = hall-fields (hallIn s) (a .hall) in
       then-sound 4 (λ x. eqb x 3) bad-length _ s 0 (omega arith) (eq-eqb (value s 0 4) 3 (a .first))
       ∙ then-sound 1 nFits bad-hall _ s 4 (omega arith) (h .0)
       ∙ then-sound 1 (kFits (value s 4 1)) bad-hall _ s 5 (omega arith) (h .1)
@@ -173,7 +173,7 @@ module _ (s : List ℕ) (a : Accepted s) where
       ∙ rw (← count-place s (a .first)) tables-read
 
   -- and so it is accepted, with its hall and its number of packets
-  pub holds-accepted : sheetOf s ≡ acceptedAs (hallOf s) (packetCountOf s)
+  pub holds-accepted : sheetOf s ≡ acceptedAs (hallIn s) (packetCountOf s)
   holds-accepted =
       let l = long in
       sheet-read s (a .short) ∙ rw (held-read, le-ltb (length s) (length s) (omega arith))

@@ -9,8 +9,8 @@ use lib.ListN.{length}
 use borrow.Author.Tests.{ltb-true, ltb-false}
 use Rattle.combine.proofs.Tests.{cases}
 use Rattle.hall.specs.declared.Hall.{Hall}
-use Rattle.hall.specs.Halls.{nFits, kFits, bFits, servers}
-use Rattle.hall.specs.Refusals.{bad-hall, bad-uid, bad-length, bad-code, bad-header, bad-sheet, bad-address}
+use Rattle.hall.specs.Halls.{hallOf, nFits, kFits, bFits, servers}
+use Rattle.hall.specs.Refusals.{bad-hall, bad-uid, bad-length, bad-code, bad-header, bad-sheet, bad-address, most-retry}
 use Rattle.ports.specs.Codes.{known, tableLength}
 use Rattle.sheet.specs.declared.Field.{Field}
 use Rattle.sheet.specs.declared.Field.the-variants.{Value, Refused}
@@ -66,7 +66,7 @@ module _ (P : ℕ → Type 0) where
     numbers-packet limit =
         numbers-then (numbers-field 4 (λ v. ltb v limit) bad-uid of-uid) (λ source.
         numbers-then (numbers-field 4 (λ v. ltb v limit) bad-uid of-uid) (λ dst.
-        numbers-then (numbers-field 1 (λ v. leb v 15) bad-header of-header) (λ v. numbers-any 1)))
+        numbers-then (numbers-field 1 (λ v. leb v most-retry) bad-header of-header) (λ v. numbers-any 1)))
 
     numbers-tables : (h : Hall) → Numbers P (tablesOf h)
     unfolding tablesOf
@@ -83,7 +83,7 @@ module _ (P : ℕ → Type 0) where
         numbers-then (numbers-field 1 nFits bad-hall of-hall) (λ n.
         numbers-then (numbers-field 1 (kFits n) bad-hall of-hall) (λ k.
         numbers-then (numbers-field 1 (bFits k) bad-hall of-hall) (λ b.
-        numbers-tables (record { n = n; k = k; b = b })))))
+        numbers-tables (hallOf n k b)))))
 
     -- so P holds of the number that reading a sheet is refused by, where it holds of these and of 10
     pub refused-numbers : P bad-sheet → (s : List ℕ) (number place : ℕ) → read nightSheet s 0 ≡ Refused number place → P number

@@ -10,7 +10,7 @@ use lib.ListN.{length}
 use borrow.Author.Tests.{leb-true, leb-false, le-leb, lt-leb}
 use Rattle.combine.proofs.Tests.{cases}
 use Rattle.hall.specs.Refusals.{bad-hall, bad-sheet}
-use Rattle.hall.specs.Halls.{nFits, kFits, bFits, valid}
+use Rattle.hall.specs.Halls.{hallOf, nFits, kFits, bFits, valid}
 use Rattle.sheet.specs.declared.Field.{Field}
 use Rattle.sheet.specs.declared.Field.the-variants.{Value, Refused}
 use Rattle.words.specs.Words.{value}
@@ -181,7 +181,7 @@ field-sound width sound number s at h t = read-sound s width sound number done a
 -- a hall whose n, k and b were read is valid
 pub valid-read : (s : List ℕ) (n k b at-n at-k at-b next-n next-k next-b : ℕ)
     → read number-n s at-n ≡ Value n next-n → read (number-k n) s at-k ≡ Value k next-k → read (number-b k) s at-b ≡ Value b next-b
-    → valid (record { n = n; k = k; b = b }) ≡ true
+    → valid (hallOf n k b) ≡ true
 unfolding valid
 valid-read s n k b at-n at-k at-b next-n next-k next-b en ek eb =
     let fn = field-read 1 nFits bad-hall s at-n n next-n en .1 in

@@ -11,7 +11,7 @@ use Rattle.hall.specs.Halls.{valid, servers}
 use Rattle.ports.specs.Codes.{known, tableLength}
 use Rattle.words.specs.Words.{value}
 use Rattle.sheet.specs.Sheets.{longest}
-use Rattle.sheet.specs.Answers.{codesPlace, codeCountOf, hallOf, packetPlace}
+use Rattle.sheet.specs.Answers.{codesPlace, codeCountOf, hallIn, packetPlace}
 
 -- the third count
 unfoldable pub packetCountOf : List ℕ → ℕ
@@ -26,8 +26,8 @@ pub record PacketFits (h : Hall) (s : List ℕ) (at : ℕ) : Type 0 where
 pub record Accepted (s : List ℕ) : Type 0 where
   pub short : length s ≤ longest
   pub first : value s 0 4 ≡ 3
-  pub hall : valid (hallOf s) ≡ true
-  pub second : codeCountOf s ≡ tableLength (hallOf s)
+  pub hall : valid (hallIn s) ≡ true
+  pub second : codeCountOf s ≡ tableLength (hallIn s)
   pub codes : (i : ℕ) → i < codeCountOf s → known (value s (codesPlace s + i) 1) ≡ true
-  pub packets : (i : ℕ) → i < packetCountOf s → PacketFits (hallOf s) s (packetPlace s i)
+  pub packets : (i : ℕ) → i < packetCountOf s → PacketFits (hallIn s) s (packetPlace s i)
   pub whole : length s ≡ packetPlace s (packetCountOf s)

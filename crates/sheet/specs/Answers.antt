@@ -4,6 +4,7 @@ use mathlib.Core.List.{List}
 use Prim.Native.Nat.{ℕ, _+_, _*_}
 use lib.Dec.{ltb}
 use lib.ListN.{length}
+use Rattle.hall.specs.Halls.{hallOf}
 use Rattle.combine.specs.Tests.{pick}
 use Rattle.hall.specs.declared.Hall.{Hall}
 use Rattle.hall.specs.Refusals.{bad-sheet}
@@ -37,12 +38,12 @@ abbrev pub codeCountOf : List ℕ → ℕ
 codeCountOf s = value s (countPlace s) 4
 
 -- the hall that a sheet's bytes name
-abbrev pub hallOf : List ℕ → Hall
-hallOf s = record { n = value s place-n 1; k = value s place-k 1; b = value s place-b 1 }
+abbrev pub hallIn : List ℕ → Hall
+hallIn s = hallOf (value s place-n 1) (value s place-k 1) (value s place-b 1)
 
 -- a refused sheet: number and place, and zero in every other field
 abbrev pub refusedAt : ℕ → ℕ → Sheet
-refusedAt number place = record { refusal = number; place = place; hall = record { n = 0; k = 0; b = 0 }; packets = 0 }
+refusedAt number place = record { refusal = number; place = place; hall = hallOf 0 0 0; packets = 0 }
 
 -- an accepted one: its hall and its number of packets
 abbrev pub acceptedAs : Hall → ℕ → Sheet
@@ -53,7 +54,7 @@ abbrev pub told : List ℕ → Field → Sheet
 told s (Refused number place) = refusedAt number place
 told s (Value packetCount end) =
     pick (ltb end (length s)) (refusedAt bad-sheet end)
-    (acceptedAs (hallOf s) packetCount)
+    (acceptedAs (hallIn s) packetCount)
 
 -- at most 65,536 bytes, else 10 at place 65,536
 unfoldable pub sheetOf : List ℕ → Sheet

@@ -4,7 +4,7 @@ use mathlib.Core.Bool.{true}
 use Prim.Native.Nat.{ℕ, zero, suc}
 use lib.Dec.{eqb, leb, ltb}
 use Rattle.hall.specs.declared.Hall.{Hall}
-use Rattle.hall.specs.Halls.{nFits, kFits, bFits, servers}
+use Rattle.hall.specs.Halls.{hallOf, nFits, kFits, bFits, servers}
 use Rattle.hall.specs.Refusals.{bad-hall, bad-uid, bad-length, bad-code, bad-header, most-retry}
 use Rattle.ports.specs.Codes.{known, tableLength}
 use Rattle.sheet.specs.Formats.{Format, done, field, and-then}
@@ -66,4 +66,4 @@ tablesOf h =
 unfoldable pub nightSheet : Format
 nightSheet =
     and-then (count 3) (λ v. and-then number-n (λ n. and-then (number-k n) (λ k. and-then (number-b k) (λ b.
-    tablesOf (record { n = n; k = k; b = b })))))
+    tablesOf (hallOf n k b)))))

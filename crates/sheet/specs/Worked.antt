@@ -5,7 +5,7 @@ use mathlib.Core.List.{List, [], _∷_, _++_}
 use Prim.Native.Nat.{ℕ}
 use lib.ListN.{replicate}
 use Rattle.hall.specs.Cells.{t}
-use Rattle.hall.specs.Halls.{nFits, kFits, bFits, servers}
+use Rattle.hall.specs.Halls.{hallOf, nFits, kFits, bFits, servers}
 use Rattle.ports.specs.Codes.{known, tableLength}
 use Rattle.words.specs.Words.{value}
 use Rattle.sheet.specs.Formats.{read, and-then}
@@ -19,7 +19,7 @@ sheetWith code rest =
     ++ (0 ∷ 0 ∷ 0 ∷ 40 ∷ []) ++ replicate 7 1 ++ (code ∷ []) ++ replicate 25 1 ++ (code ∷ []) ++ replicate 6 1
     ++ (0 ∷ 0 ∷ 0 ∷ 1 ∷ []) ++ (0 ∷ 0 ∷ 0 ∷ 0 ∷ 0 ∷ 0 ∷ 0 ∷ 19 ∷ 5 ∷ 15 ∷ []) ++ rest
 
-accepted : sheetOf (sheetWith 2 []) ≡ acceptedAs (record { n = 4; k = 1; b = 0 }) 1
+accepted : sheetOf (sheetWith 2 []) ≡ acceptedAs (hallOf 4 1 0) 1
 unfolding sheetOf sheetWith nightSheet tablesOf times packet read and-then value nFits kFits bFits tableLength servers t known
 accepted = refl
 

@@ -13,7 +13,7 @@ use Rattle.words.specs.Words.{value, Bytes, bytesOf}
 use Rattle.words.proofs.Words.{drop-bytes}
 use Rattle.sheet.specs.Formats.{Format, done, and-then}
 use Rattle.sheet.specs.Sheets.{any, codes, packet, packets, times, tablesOf, nightSheet}
-use Rattle.sheet.specs.Answers.{countPlace, codesPlace, codeCountOf, hallOf, acceptedAs, sheetOf, packetPlace}
+use Rattle.sheet.specs.Answers.{countPlace, codesPlace, codeCountOf, hallIn, acceptedAs, sheetOf, packetPlace}
 use Rattle.sheet.specs.Accepted.{packetCountOf}
 use Rattle.sheet.proofs.Places.{count-place}
 use Rattle.sheet.proofs.Held.{accepted-read, accepted-holds, long, holds-accepted}
@@ -76,14 +76,14 @@ module _ (s : List ℕ) (b : Bytes s) where
       ∙ rw (c, behind-values s (servers h) (at + 4 + so-many) 0 l))
 
   sheet-values : laid (valuesIn nightSheet s 0)
-      ≡ bytesOf 4 (value s 0 4) ++ (bytesOf 1 (value s 4 1) ++ (bytesOf 1 (value s 5 1) ++ (bytesOf 1 (value s 6 1) ++ laid (valuesIn (tablesOf (hallOf s)) s 7))))
+      ≡ bytesOf 4 (value s 0 4) ++ (bytesOf 1 (value s 4 1) ++ (bytesOf 1 (value s 5 1) ++ (bytesOf 1 (value s 6 1) ++ laid (valuesIn (tablesOf (hallIn s)) s 7))))
   unfolding laid valuesIn nightSheet and-then
   sheet-values = refl
 
   -- so it is the sections one behind the other
   pub encoded : (codes : List ℕ) (packet : ℕ → SheetPacket) → sheetOf s .refusal ≡ 0
       → codes ≡ take (codeCountOf s) (drop (codesPlace s) s) → ((i : ℕ) → i < packetCountOf s → packet i ≡ packetFields s i)
-      → s ≡ encodingOf (acceptedAs (hallOf s) (packetCountOf s)) codes packet
+      → s ≡ encodingOf (acceptedAs (hallIn s) (packetCountOf s)) codes packet
   unfolding encodingOf codesPlace packetPlace packetCountOf
   encoded codes packet ok ec each =
       let a = accepted-holds s ok in
@@ -92,7 +92,7 @@ module _ (s : List ℕ) (b : Bytes s) where
       let w = accepted-laid nightSheet s b 0 (r .1 .0) (length s) (r .1 .1) .3 in
       let c : length (take (codeCountOf s) (drop (codesPlace s) s)) ≡ codeCountOf s =
       length-take-le (codeCountOf s) (drop (codesPlace s) s) (omega (arith, length-drop (codesPlace s) s)) in
-      let t = tables-values (hallOf s) (countPlace s) (omega arith) in
+      let t = tables-values (hallIn s) (countPlace s) (omega arith) in
       let p = packets-alike packet (packetFields s) 0 (packetCountOf s) (λ i h. each i (omega arith)) in
       w ∙ rw (drop-length s, append-nil (laid (valuesIn nightSheet s 0)))
       (sheet-values ∙ rw (a .first, ← count-place s (a .first), t, ec, c, p) (simp append-assoc))

@@ -5,7 +5,7 @@ use Prim.Native.Nat.{ℕ, _+_, _<_}
 use native.Mathlib.Omega.{arith}
 use lib.ListN.{take, drop, length-take}
 use lib.Seq.{getD-take, getD-drop}
-use Rattle.sheet.specs.Answers.{codesPlace, codeCountOf, hallOf, acceptedAs, sheetOf}
+use Rattle.sheet.specs.Answers.{codesPlace, codeCountOf, hallIn, acceptedAs, sheetOf}
 use Rattle.sheet.specs.Accepted.{packetCountOf}
 use Rattle.sheetparts.specs.Parts.{packetFields}
 use Rattle.sheetparts.proofs.Encoding.{encoded}
@@ -24,8 +24,8 @@ part-bytes s b at so-many =
 
 -- an accepted sheet is the one that is written of its parts
 pub relaid : (s : List ℕ) → Bytes s → sheetOf s .refusal ≡ 0
-    → sheetFor (hallOf s) (take (codeCountOf s) (drop (codesPlace s) s)) (listed (packetFields s) 0 (packetCountOf s)) ≡ s
+    → sheetFor (hallIn s) (take (codeCountOf s) (drop (codesPlace s) s)) (listed (packetFields s) 0 (packetCountOf s)) ≡ s
 relaid s b ok =
     let codes = take (codeCountOf s) (drop (codesPlace s) s) in
-    sheet-encoding (acceptedAs (hallOf s) (packetCountOf s)) codes (packetFields s) (part-bytes s b (codesPlace s) (codeCountOf s))
+    sheet-encoding (acceptedAs (hallIn s) (packetCountOf s)) codes (packetFields s) (part-bytes s b (codesPlace s) (codeCountOf s))
     ∙ sym (encoded s b codes (packetFields s) ok refl (λ i h. refl))

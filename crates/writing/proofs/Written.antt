@@ -19,7 +19,7 @@ use Rattle.words.specs.Words.{Bytes, bytesOf}
 use Rattle.words.proofs.Bytes.{bytes-long, value-laid, value-fits, drop-laid}
 use Rattle.sheet.specs.Formats.{and-then, done}
 use Rattle.sheet.specs.Sheets.{longest, packet, packets, tablesOf, nightSheet}
-use Rattle.sheet.specs.Answers.{codesPlace, codeCountOf, acceptedAs, sheetOf, packetPlace, hallOf}
+use Rattle.sheet.specs.Answers.{codesPlace, codeCountOf, acceptedAs, sheetOf, packetPlace, hallIn}
 use Rattle.sheet.proofs.Numbers.{numbers-sheet}
 use Rattle.sheet.proofs.Held.{accepted-holds, long, holds-accepted, hall-fields}
 use Rattle.sheetparts.specs.declared.SheetPacket.{SheetPacket}
@@ -190,7 +190,7 @@ module _ (s : List ℕ) (b : Bytes s) where
 
   -- an accepted sheet that is written again is the same bytes
   module _ (ok : sheetOf s .refusal ≡ 0) where
-    same-hall : sheetOf s .hall ≡ hallOf s
+    same-hall : sheetOf s .hall ≡ hallIn s
     same-hall = ap (λ x. x .hall) (holds-accepted s (accepted-holds s ok))
 
     same-codes : codesOf s ≡ take (codeCountOf s) (drop (codesPlace s) s)

@@ -6,7 +6,7 @@ use Prim.Native.Nat.{ℕ}
 use lib.ListN.{replicate}
 use Rattle.hall.specs.declared.Hall.{Hall}
 use Rattle.hall.specs.Cells.{t}
-use Rattle.hall.specs.Halls.{nFits, kFits, bFits, servers}
+use Rattle.hall.specs.Halls.{hallOf, nFits, kFits, bFits, servers}
 use Rattle.ports.specs.Codes.{known, tableLength}
 use Rattle.sheet.specs.Formats.{and-then}
 use Rattle.sheet.specs.Sheets.{times, packet, tablesOf, nightSheet}
@@ -19,7 +19,7 @@ use Rattle.writing.specs.Writing.{filledPacket, filledSheet, sheetFor, w
 
 -- a hall of n, forty codes with one at the bytes 7 and 33, and a packet to dst
 abbrev hall : ℕ → Hall
-hall n = record { n = n; k = 1; b = 0 }
+hall n = hallOf n 1 0
 
 unfoldable forty : ℕ → List ℕ
 forty code = replicate 7 1 ++ (code ∷ []) ++ replicate 25 1 ++ (code ∷ []) ++ replicate 6 1

@@ -3,7 +3,8 @@ use mathlib.Core.Path.{sym}
 use native.Mathlib.Omega.{arith}
 use Rattle.frame.specs.Layout.{wordAt}
 use Rattle.frame.proofs.Sums.{total-has, checksum-words}
-use Rattle.frame.proofs.Words.{Bytes, word-fits}
+use Rattle.words.specs.Words.{Bytes}
+use Rattle.frame.proofs.Words.{word-fits}
 use borrow.Author.Needs.{needs}
 use Rattle.frame.proofs.checksum.checksum_of.Statement.{statement}
 use Rattle.frame.proofs.checksum.checksum_of.Tie as tie
@@ -28,7 +29,7 @@ complement-requires c κs = search needs
 returns : tie.Need-returns
 returns c =
     let a = c .before .before .before .before .args in
-    let bytes : Bytes (a .frame .now) = λ i. omega (arith, c .before .before .before .shared-slice-known .given i) in
+    let bytes : Bytes (a .frame .now) = record { below = λ i. omega (arith, c .before .before .before .shared-slice-known .given i) } in
     rw (c .complement .ensures, c .before .sum-words .ensures, c .before .before .word-at .ensures)
     (sym (checksum-words (wordAt (a .frame .now)) (a .count) (word-fits (a .frame .now) bytes) (omega arith)))
 

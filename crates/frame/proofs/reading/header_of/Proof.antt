@@ -5,7 +5,8 @@ use native.Mathlib.Omega.{arith}
 use Rattle.frame.specs.Layout.{DHL, flags, wordsWith, isPF, valueIn, wordAt}
 use Rattle.frame.proofs.Frames.{accepted-sound}
 use Rattle.frame.proofs.Rows.{DHL-in, payload-in, flags-in, parts-in, whole-in}
-use Rattle.frame.proofs.Words.{Bytes, word-fits}
+use Rattle.words.specs.Words.{Bytes}
+use Rattle.frame.proofs.Words.{word-fits}
 use borrow.Author.Needs.{needs}
 use Rattle.frame.proofs.reading.header_of.Statement.{statement}
 use Rattle.frame.proofs.reading.header_of.Tie as tie
@@ -60,7 +61,7 @@ mul-header-length c = search needs
 returns : tie.Need-returns
 returns c =
     let f = c .before .before .before .before .before .before .before .args .frame .now in
-    let bytes : Bytes f = λ i. omega (arith, c .before .before .before .before .before .before .shared-slice-known .given i) in
+    let bytes : Bytes f = record { below = λ i. omega (arith, c .before .before .before .before .before .before .shared-slice-known .given i) } in
     let p = parts-in (wordAt f) in
     let w = whole-in (wordAt f) (word-fits f bytes) in
     rw (

@@ -4,7 +4,8 @@ use Prim.Native.Nat.{ℕ, _-_}
 use native.Mathlib.Omega.{arith}
 use Rattle.frame.specs.Layout.{wordsWith, wordAt}
 use Rattle.frame.proofs.Rows.{told-fits, proxy-in, no-proxy-in}
-use Rattle.frame.proofs.Words.{Bytes, word-fits}
+use Rattle.words.specs.Words.{Bytes}
+use Rattle.frame.proofs.Words.{word-fits}
 use Rattle.frame.proofs.reading.proxy_of.Statement.{statement}
 use Rattle.frame.proofs.reading.proxy_of.Tie as tie
 
@@ -19,7 +20,7 @@ returns c =
     let a = c .before .before .before .args in
     let f = a .frame .now in
     let t = c .before .before .before .pre .1 in
-    let bytes : Bytes f = λ i. omega (arith, c .before .before .shared-slice-known .given i) in
+    let bytes : Bytes f = record { below = λ i. omega (arith, c .before .before .shared-slice-known .given i) } in
     c .word-at .ensures
     ∙ ap (λ (n : ℕ). wordAt f (n - 1)) (t .agrees ∙ ap wordsWith (c .before .if1 .taken))
     ∙ sym (proxy-in (wordAt f) (word-fits f bytes) (sym (t .flagged) ∙ c .before .if1 .taken))

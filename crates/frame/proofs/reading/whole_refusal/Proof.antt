@@ -12,7 +12,8 @@ use Rattle.frame.specs.Addresses.{addressesFit}
 use Rattle.frame.specs.Asks.{Told, addressesSound, sumIn}
 use Rattle.frame.proofs.Frames.{whole-short, whole-checksum, whole-address, whole-payload, whole-sound}
 use Rattle.frame.proofs.Rows.{told-fits, payload-in, checksum-in, whole-in}
-use Rattle.frame.proofs.Words.{Bytes, word-fits}
+use Rattle.words.specs.Words.{Bytes}
+use Rattle.frame.proofs.Words.{word-fits}
 use borrow.Author.Needs.{needs}
 use Rattle.frame.proofs.reading.whole_refusal.Statement.{statement}
 use Rattle.frame.proofs.reading.whole_refusal.Tie as tie
@@ -75,7 +76,7 @@ returns-3 c =
     let a = c .before .before .before .before .before .before .before .before .before .before .args in
     let f = a .frame .now in
     let t = c .before .before .before .before .before .before .before .before .before .before .pre in
-    let bytes : Bytes f = λ i. omega (arith, c .before .before .before .before .before .before .before .before .before .shared-slice-known .given i) in
+    let bytes : Bytes f = record { below = λ i. omega (arith, c .before .before .before .before .before .before .before .before .before .shared-slice-known .given i) } in
     let r = c .before .addresses-fit in
     whole-address (length f) (valueIn (wordAt f)) (sumIn f) (omega (arith, t .counted, c .before .before .before .before .before .before .before .before .if1 .left))
     (checksum-read f (a .count) _ t _ (c .before .before .before .before .before .before .before .word-at .ensures) ∙ c .before .before .before .before .before .if2 .left ∙ sum-read f (a .count) _ t _ (c .before .before .before .before .before .before .checksum-of .ensures))
@@ -98,7 +99,7 @@ returns-4 c =
     let a = c .before .before .before .before .before .before .before .before .before .before .before .before .args in
     let f = a .frame .now in
     let t = c .before .before .before .before .before .before .before .before .before .before .before .before .pre in
-    let bytes : Bytes f = λ i. omega (arith, c .before .before .before .before .before .before .before .before .before .before .before .shared-slice-known .given i) in
+    let bytes : Bytes f = record { below = λ i. omega (arith, c .before .before .before .before .before .before .before .before .before .before .before .shared-slice-known .given i) } in
     let r = c .before .before .before .addresses-fit in
     whole-payload (length f) (valueIn (wordAt f)) (sumIn f) (omega (arith, t .counted, c .before .before .before .before .before .before .before .before .before .before .if1 .left))
     (checksum-read f (a .count) _ t _ (c .before .before .before .before .before .before .before .before .before .word-at .ensures) ∙ c .before .before .before .before .before .before .before .if2 .left ∙ sum-read f (a .count) _ t _ (c .before .before .before .before .before .before .before .before .checksum-of .ensures))
@@ -110,7 +111,7 @@ returns-5 c =
     let a = c .before .before .before .before .before .before .before .before .before .before .before .before .args in
     let f = a .frame .now in
     let t = c .before .before .before .before .before .before .before .before .before .before .before .before .pre in
-    let bytes : Bytes f = λ i. omega (arith, c .before .before .before .before .before .before .before .before .before .before .before .shared-slice-known .given i) in
+    let bytes : Bytes f = record { below = λ i. omega (arith, c .before .before .before .before .before .before .before .before .before .before .before .shared-slice-known .given i) } in
     let r = c .before .before .before .addresses-fit in
     whole-sound (length f) (valueIn (wordAt f)) (sumIn f) (omega (arith, t .counted, c .before .before .before .before .before .before .before .before .before .before .if1 .left))
     (checksum-read f (a .count) _ t _ (c .before .before .before .before .before .before .before .before .before .word-at .ensures) ∙ c .before .before .before .before .before .before .before .if2 .left ∙ sum-read f (a .count) _ t _ (c .before .before .before .before .before .before .before .before .checksum-of .ensures))
