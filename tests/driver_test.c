@@ -36,16 +36,23 @@ static const char worked_step[] = "00000000 00000004 00000013 00000001 00000004 
 #define LONGEST_TABLE 288u
 /* A room for any answer. */
 #define ANY_ROOM 256u
-/* Questions of each random test. */
+/* Questions of each random test; the stack is measured over twice as many. */
 #ifndef RANDOM_QUESTIONS
-#define RANDOM_QUESTIONS 40000u
+#define RANDOM_QUESTIONS 60000u
 #endif
 /* The greatest number. */
 #define HUGE_WORD 4294967295u
-/* The stack in bytes that no call may exceed, as docs/DRIVER.md says. */
-#define STEP_STACK 4096u
-#define ROUTE_STACK 1024u
-#define HEADER_STACK 512u
+/* The stack in bytes that no call may exceed, as docs/DRIVER.md says: what was measured, a tenth more, and up to the next 16. */
+#define STEP_STACK 1536u
+#define ROUTE_STACK 512u
+#define READ_STACK 112u
+#define WRITE_STACK 192u
+/* What the function that makes the call takes more where it is not optimized. */
+#ifdef __OPTIMIZE__
+#define CALLER_MORE 0u
+#else
+#define CALLER_MORE 96u
+#endif
 
 /* Numbers that are at an edge of some rule. */
 static const uint32_t edges[] = {
@@ -1478,10 +1485,10 @@ static void stack_fits(void)
     size_t write = stack_of(WRITE);
     size_t step = stack_of(STEP);
     printf("bytes of stack: route %zu, read_header %zu, write_header %zu, step %zu\n", route, read, write, step);
-    DEMAND(route <= ROUTE_STACK);
-    DEMAND(read <= HEADER_STACK);
-    DEMAND(write <= HEADER_STACK);
-    DEMAND(step <= STEP_STACK);
+    DEMAND(route <= ROUTE_STACK + CALLER_MORE);
+    DEMAND(read <= READ_STACK + CALLER_MORE);
+    DEMAND(write <= WRITE_STACK + CALLER_MORE);
+    DEMAND(step <= STEP_STACK + CALLER_MORE);
 }
 #endif
 

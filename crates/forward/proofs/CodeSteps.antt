@@ -25,13 +25,17 @@ use Rattle.forward.specs.declared.Packet.{Packet}
 use Rattle.forward.specs.declared.Step.{Step}
 use Rattle.forward.specs.declared.Way.{Way}
 use Rattle.forward.specs.declared.Way.the-variants.{To, Closed, Unreached}
+use Rattle.forward.specs.declared.Outlook.{Outlook}
+use Rattle.forward.specs.declared.Outlook.the-variants.{Next, NoRoute, Blocked}
+use Rattle.forward.specs.declared.Turned.{Turned}
+use Rattle.forward.specs.declared.Turned.the-variants.{Again, NoProxy}
 use Rattle.forward.specs.declared.Candidate.{Candidate}
 use Rattle.forward.specs.declared.Candidate.the-variants as candidate
 use Rattle.forward.specs.Packets.{drop-ttl, drop-route, drop-retry, drop-proxy, delivered, cleared, tidied, proxied, retried, isArrived, goal, sent, ended, counted}
 use Rattle.forward.specs.Seen.{Seen}
 use Rattle.forward.specs.Proxies.{isCandidate, choice}
-use Rattle.forward.specs.Steps.{Reroute, reachable, across, firstLevel, rerouted, setProxy, rerouteOn, stepFrom, stepOn}
-use Rattle.forward.specs.Inside.{Here, Ahead, Sound, Standing, Stopped, Placed, wayTo, wayOver}
+use Rattle.forward.specs.Steps.{Reroute, reachable, across, from4, firstLevel, rerouted, setProxy, rerouteOn, stepFrom, stepOn}
+use Rattle.forward.specs.Inside.{Here, Ahead, Sound, Standing, Stopped, Placed, wayTo, wayOver, outlookBy, outlookOf, turnBy, turnOf}
 use Rattle.forward.proofs.Passes.{step-passes}
 use Rattle.forward.proofs.Steps.{last-pass}
 use Rattle.forward.proofs.Chosen.{choice-at}
@@ -39,46 +43,59 @@ use Rattle.forward.proofs.Links as ahead
 use Rattle.forward.proofs.Links.{place-in}
 use Rattle.forward.proofs.Hops.{Suits, proxy-in-hall, proxy-away}
 
-module _ (h : Hall) (s : Seen) (me : ℕ) (came : Packet) where
-  -- 4 to 10 by the way on
-  abbrev onWay : Reroute → Crossing → Packet → Bool → Way → Step
-  onWay reroute link p arrived (To u) = sent u p
-  onWay reroute link p arrived Closed = reroute link p arrived
-  onWay reroute link p arrived Unreached = pick (same (h .n) (h .b) me (came .dst)) (ended drop-route came) (reroute link p arrived)
+-- a packet that tries again is told whole
+again-one : {p r : Packet} → Again p ≡ Again r → r ≡ p
+again-one {p} {r} e = cc
 
-  across-way : (reroute : Reroute) (p : Packet) (arrived : Bool) (link : Crossing)
-      → across h s me came reroute p arrived link ≡ onWay reroute link p arrived (wayOver h s me (goal p) link)
+-- what a reroute makes of a packet has its retry
+again-retry : (h : Hall) (me : ℕ) (p : Packet) (found : Candidate) (r : Packet) → turnBy h me p found ≡ Again r → r .retry ≡ p .retry
+again-retry h me p candidate.Nothing r e = absurd (let w : _≡_ {A = ℕ} 0 1 = cc in omega arith)
+again-retry h me p (candidate.At p1 i) r e = ap (λ (x : Packet). x .retry) (again-one e)
+
+pub turn-retry : (h : Hall) (s : Seen) (me : ℕ) (link : Crossing) (p : Packet) (arrived : Bool) (r : Packet)
+    → turnOf h s me link p arrived ≡ Again r → r .retry ≡ p .retry
+unfolding turnOf
+turn-retry h s me Nothing p arrived r e = ap (λ (x : Packet). x .retry) (again-one e)
+turn-retry h s me (Link n1 n2 m) p arrived r e = again-retry h me p (choice h s (placeOf h me) (m + pick (both arrived (ltb m (h .k))) 1 0)) r e
+
+module _ (h : Hall) (s : Seen) (me : ℕ) (came : Packet) where
+  -- 4 to 10 by what lies before the packet
+  abbrev onOutlook : Reroute → Packet → Bool → Outlook → Step
+  onOutlook reroute p arrived (Next u) = sent u p
+  onOutlook reroute p arrived NoRoute = ended drop-route came
+  onOutlook reroute p arrived (Blocked link) = reroute link p arrived
+
+  across-outlook : (reroute : Reroute) (p : Packet) (arrived : Bool) (link : Crossing)
+      → across h s me came reroute p arrived link
+      ≡ onOutlook reroute p arrived (outlookBy h me (came .dst) link (wayOver h s me (goal p) link))
   unfolding wayOver wayTo reachable
-  across-way reroute p arrived Nothing =
-      cases (eqb (s .distance (placeOf h (goal p)) (placeOf h me)) none) (λ e. rw e) (λ e. rw e)
-  across-way reroute p arrived (Link n1 n2 m) =
+  across-outlook reroute p arrived Nothing =
+      cases (eqb (s .distance (placeOf h (goal p)) (placeOf h me)) none)
+      (λ e. cases (same (h .n) (h .b) me (came .dst)) (λ n. rw (e, n)) (λ n. rw (e, n)))
+      (λ e. rw e)
+  across-outlook reroute p arrived (Link n1 n2 m) =
       cases (s .usable m (placeOf h n1))
       (λ u. cases (eqb me n1)
       (λ q. rw (u, q))
-      (λ q. cases (eqb (s .distance (placeOf h n1) (placeOf h me)) none) (λ e. rw (u, q, e)) (λ e. rw (u, q, e))))
+      (λ q. cases (eqb (s .distance (placeOf h n1) (placeOf h me)) none)
+      (λ e. cases (same (h .n) (h .b) me (came .dst)) (λ n. rw (u, q, e, n)) (λ n. rw (u, q, e, n)))
+      (λ e. rw (u, q, e))))
       (λ u. rw u)
 
-  module _ (p : Packet) (arrived : Bool) (to : ℕ) (aim : to ≡ goal p) (link : Crossing) (first : link ≡ firstLink h me to)
-      (w : Way) (is : w ≡ wayOver h s me to link) where
-    by-way : stepFrom h s me came p arrived ≡ onWay (rerouteOn h s me came (p .retry)) link p arrived w
-    unfolding stepFrom
-    by-way =
-        let f : firstLink h me (goal p) ≡ link = sym (first ∙ ap (firstLink h me) aim) in
-        let v : wayOver h s me (goal p) link ≡ w = sym (is ∙ ap (λ (g : ℕ). wayOver h s me g link) aim) in
-        rw f (across-way (rerouteOn h s me came (p .retry)) p arrived link ∙ rw v)
+  module _ (p : Packet) (arrived : Bool) (o : Outlook) (is : o ≡ outlookOf h s me (came .dst) (goal p)) where
+    by-outlook : stepFrom h s me came p arrived ≡ onOutlook (rerouteOn h s me came (p .retry)) p arrived o
+    unfolding stepFrom outlookOf
+    by-outlook = across-outlook (rerouteOn h s me came (p .retry)) p arrived (firstLink h me (goal p)) ∙ rw is
 
-    pub step-goes : (u : ℕ) (o : Step) → w ≡ To u → o ≡ sent u p → o ≡ stepFrom h s me came p arrived
-    step-goes u o e q = q ∙ sym (by-way ∙ rw e)
+    pub step-goes : (u : ℕ) (z : Step) → o ≡ Next u → z ≡ sent u p → z ≡ stepFrom h s me came p arrived
+    step-goes u z e q = q ∙ sym (by-outlook ∙ rw e)
 
-    pub step-closed : (o : Step) → w ≡ Closed → o ≡ rerouteOn h s me came (p .retry) link p arrived → o ≡ stepFrom h s me came p arrived
-    step-closed o e q = q ∙ sym (by-way ∙ rw e)
+    pub step-drops : (z : Step) → o ≡ NoRoute → z ≡ ended drop-route came → z ≡ stepFrom h s me came p arrived
+    step-drops z e q = q ∙ sym (by-outlook ∙ rw e)
 
-    module _ (e : w ≡ Unreached) (near : Bool) (n : near ≡ same (h .n) (h .b) me (came .dst)) where
-      pub step-drops : (o : Step) → near ≡ true → o ≡ ended drop-route came → o ≡ stepFrom h s me came p arrived
-      step-drops o t q = q ∙ sym (by-way ∙ rw (e, ← n, t))
-
-      pub step-unreached : (o : Step) → near ≡ false → o ≡ rerouteOn h s me came (p .retry) link p arrived → o ≡ stepFrom h s me came p arrived
-      step-unreached o t q = q ∙ sym (by-way ∙ rw (e, ← n, t))
+    pub step-blocked : (link : Crossing) (z : Step) → o ≡ Blocked link → z ≡ rerouteOn h s me came (p .retry) link p arrived
+        → z ≡ stepFrom h s me came p arrived
+    step-blocked link z e q = q ∙ sym (by-outlook ∙ rw e)
 
   pub reroute-last : (n : ℕ) (link : Crossing) (p : Packet) (arrived : Bool) → n ≤ 1 → rerouteOn h s me came n link p arrived ≡ ended drop-retry came
   unfolding rerouteOn
@@ -93,35 +110,37 @@ module _ (h : Hall) (s : Seen) (me : ℕ) (came : Packet) where
   reroute-more (suc zero) link p arrived l = absurd (omega arith)
   reroute-more (suc (suc f)) link p arrived l = rw (sub-one (suc (suc f)))
 
-  module _ (p : Packet) (arrived : Bool) (many : 1 < p .retry) (q : Packet) (low : q ≡ retried (p .retry - 1) p) where
-    pub reroute-clears : (link : Crossing) → link ≡ Nothing → (r : Packet) (o z : Step) → r ≡ cleared q → o ≡ stepFrom h s me came r false → z ≡ counted o
+  -- the reroute by what it makes of the packet
+  abbrev onTurn : Reroute → Turned → Step
+  onTurn reroute NoProxy = ended drop-proxy came
+  onTurn reroute (Again r) = counted (from4 h s me came reroute r false)
+
+  set-turn : (reroute : Reroute) (p : Packet) (found : Candidate) → setProxy h s me came reroute p found ≡ onTurn reroute (turnBy h me p found)
+  set-turn reroute p candidate.Nothing = refl
+  set-turn reroute p (candidate.At p1 i) = refl
+
+  rerouted-turn : (reroute : Reroute) (link : Crossing) (p : Packet) (arrived : Bool)
+      → rerouted h s me came reroute link p arrived ≡ onTurn reroute (turnOf h s me link p arrived)
+  unfolding turnOf firstLevel
+  rerouted-turn reroute Nothing p arrived = refl
+  rerouted-turn reroute (Link n1 n2 m) p arrived = set-turn reroute p (choice h s (placeOf h me) (firstLevel h s me came m arrived))
+
+  module _ (p : Packet) (arrived : Bool) (many : 1 < p .retry) (q : Packet) (low : q ≡ retried (p .retry - 1) p)
+      (link : Crossing) (t : Turned) (is : t ≡ turnOf h s me link q arrived) where
+    by-turn : rerouteOn h s me came (p .retry) link p arrived ≡ onTurn (rerouteOn h s me came (p .retry - 1)) t
+    by-turn =
+        reroute-more (p .retry) link p arrived many
+        ∙ rerouted-turn (rerouteOn h s me came (p .retry - 1)) link (retried (p .retry - 1) p) arrived ∙ rw (is, low)
+
+    pub reroute-misses : (o : Step) → t ≡ NoProxy → o ≡ ended drop-proxy came → o ≡ rerouteOn h s me came (p .retry) link p arrived
+    reroute-misses o e k = k ∙ sym (by-turn ∙ rw e)
+
+    pub reroute-again : (r : Packet) → t ≡ Again r → (o z : Step) → o ≡ stepFrom h s me came r false → z ≡ counted o
         → z ≡ rerouteOn h s me came (p .retry) link p arrived
     unfolding stepFrom
-    reroute-clears link e r o z f g k =
-        k ∙ ap counted (g ∙ ap (λ (x : Packet). stepFrom h s me came x false) (f ∙ ap cleared low))
-        ∙ sym (rw e (reroute-more (p .retry) Nothing p arrived many))
-
-    module _ (link : Crossing) (n1 n2 m : ℕ) (e : link ≡ Link n1 n2 m) (level : ℕ) (lv : level ≡ m + pick (both arrived (ltb m (h .k))) 1 0)
-        (found : Candidate) (c : found ≡ choice h s (placeOf h me) level) where
-      chosen : choice h s (placeOf h me) (firstLevel h s me came m arrived) ≡ found
-      unfolding firstLevel
-      chosen = sym (c ∙ ap (choice h s (placeOf h me)) lv)
-
-      unfolded : rerouteOn h s me came (p .retry) link p arrived
-          ≡ setProxy h s me came (rerouteOn h s me came (p .retry - 1)) (retried (p .retry - 1) p) found
-      unfolded = rw e (reroute-more (p .retry) (Link n1 n2 m) p arrived many ∙ rw chosen)
-
-      pub reroute-misses : found ≡ candidate.Nothing → (o : Step) → o ≡ ended drop-proxy came → o ≡ rerouteOn h s me came (p .retry) link p arrived
-      reroute-misses f o k = k ∙ sym (unfolded ∙ rw f)
-
-      pub reroute-sets : (p1 i : ℕ) → found ≡ candidate.At p1 i → (proxy : ℕ) → proxy ≡ neighbour (h .n) (i - 1) (firstOf h me + p1)
-          → (r : Packet) (o z : Step) → r ≡ proxied proxy q → o ≡ stepFrom h s me came r false → z ≡ counted o
-          → z ≡ rerouteOn h s me came (p .retry) link p arrived
-      unfolding stepFrom
-      reroute-sets p1 i f proxy x r o z g k w =
-          let e : r ≡ proxied (neighbour (h .n) (i - 1) (firstOf h me + p1)) (retried (p .retry - 1) p) = g ∙ rw (x, low) in
-          w ∙ ap counted (k ∙ ap (λ (y : Packet). stepFrom h s me came y false) e)
-          ∙ sym (unfolded ∙ rw f)
+    reroute-again r e o z g k =
+        let n : p .retry - 1 ≡ r .retry = sym (turn-retry h s me link q arrived r (sym is ∙ e) ∙ ap (λ (x : Packet). x .retry) low) in
+        k ∙ ap counted g ∙ sym (by-turn ∙ rw (e, n))
 
   -- a step has no more reroutes than the retry
   pub step-few : (o : Step) (p : Packet) (arrived : Bool) → o ≡ stepFrom h s me came p arrived → o .reroutes ≤ p .retry
@@ -153,11 +172,29 @@ module _ (h : Hall) (table : List ℕ) (me : ℕ) (p : Packet) where
   unfolding goal
   goal-fits a = cases (p .«has_proxy») (λ q. rw q (a .packet .proxy-fits q)) (λ q. rw q (a .packet .dst-fits))
 
-  pub stands-ahead : Standing h table me p → (to : ℕ) (link : Crossing) → to ≡ goal p → link ≡ firstLink h me to → Ahead h table me to link
-  stands-ahead a to link e f = record { here = a .here; fits = rw e (goal-fits a); apart = rw e (a .goal-apart); first = f }
+  pub stands-ahead : Standing h table me p → (to : ℕ) → to ≡ goal p → Ahead h table me to (firstLink h me to)
+  stands-ahead a to e = record { here = a .here; fits = rw e (goal-fits a); apart = rw e (a .goal-apart); first = refl }
 
-  pub stands-stopped : Standing h table me p → (to : ℕ) (link : Crossing) → to ≡ goal p → link ≡ firstLink h me to → Stopped h table me link p
-  stands-stopped a to link e f = record { standing = a; first = f ∙ ap (firstLink h me) e }
+  -- what lies before it on the way there
+  pub looked : (s : Seen) (dst to : ℕ) (o : Outlook) → to ≡ goal p → o ≡ outlookOf h s me dst to → o ≡ outlookOf h s me dst (goal p)
+  looked s dst to o e f = f ∙ ap (outlookOf h s me dst) e
+
+  -- blocked, it is so at the first link towards its goal
+  blocked-by : (dst : ℕ) (first : Crossing) (w : Way) (link : Crossing) → outlookBy h me dst first w ≡ Blocked link → link ≡ first
+  blocked-by dst first (To u) link e = absurd (let w : _≡_ {A = ℕ} 0 1 = cc in omega arith)
+  blocked-by dst first Closed link e = cc
+  blocked-by dst first Unreached link e =
+      cases (same (h .n) (h .b) me dst)
+      (λ n. let f : NoRoute ≡ Blocked link = rw n at e in absurd (let w : _≡_ {A = ℕ} 0 1 = cc in omega arith))
+      (λ n. let f : Blocked first ≡ Blocked link = rw n at e in cc)
+
+  pub stands-blocked : Standing h table me p → (s : Seen) (dst : ℕ) (o : Outlook) → o ≡ outlookOf h s me dst (goal p)
+      → (link : Crossing) → o ≡ Blocked link → Stopped h table me link p
+  unfolding outlookOf
+  stands-blocked a s dst o is link e = record {
+    standing = a;
+    first = blocked-by dst (firstLink h me (goal p)) (wayOver h s me (goal p) (firstLink h me (goal p))) link (sym is ∙ e);
+  }
 
   module _ (link : Crossing) (a : Stopped h table me link p) where
     stand : Standing h table me p
@@ -172,15 +209,33 @@ module _ (h : Hall) (table : List ℕ) (me : ℕ) (p : Packet) where
     pub level-low : (n1 n2 m : ℕ) → link ≡ Link n1 n2 m → m ≤ top
     level-low n1 n2 m e = let k = link-of e in omega (arith, k .level, k .high, v .k-high)
 
-    -- without its proxy it still stands there
-    pub stands-cleared : (q : Packet) → q ≡ retried (p .retry - 1) p → (r : Packet) → r ≡ cleared q → Standing h table me r
+    -- with one retry less it is stopped there too
+    pub stopped-retried : (q : Packet) → q ≡ retried (p .retry - 1) p → Stopped h table me link q
     unfolding goal
-    stands-cleared q low r e = rw (e, low) (record {
+    stopped-retried q low = rw low (record {
+      standing = record {
+        here = stand .here;
+        packet = record {
+          dst-fits = stand .packet .dst-fits;
+          proxy-fits = stand .packet .proxy-fits;
+          retry-fits = omega (arith, stand .packet .retry-fits);
+        };
+        dst-apart = stand .dst-apart;
+        goal-apart = stand .goal-apart;
+        alive = stand .alive;
+      };
+      first = a .first;
+    })
+
+    -- without its proxy it still stands there
+    stands-cleared : (r : Packet) → r ≡ cleared p → Standing h table me r
+    unfolding goal
+    stands-cleared r e = rw e (record {
       here = stand .here;
       packet = record {
         dst-fits = stand .packet .dst-fits;
         proxy-fits = λ z. absurd (let w : _≡_ {A = ℕ} 0 1 = cc in omega arith);
-        retry-fits = omega (arith, stand .packet .retry-fits);
+        retry-fits = stand .packet .retry-fits;
       };
       dst-apart = stand .dst-apart;
       goal-apart = stand .dst-apart;
@@ -208,23 +263,39 @@ module _ (h : Hall) (table : List ℕ) (me : ℕ) (p : Packet) where
       placed = record { sound = stand .here .sound; fits = stand .here .fits; inside = suits .below; low = omega (arith, suits .low); high = suits .high }
 
       -- and with a new one
-      pub stands-proxied : (q : Packet) → q ≡ retried (p .retry - 1) p → (proxy : ℕ) → proxy ≡ neighbour (h .n) (i - 1) (firstOf h me + p1)
-          → (r : Packet) → r ≡ proxied proxy q → Standing h table me r
+      stands-proxied : (r : Packet) → r ≡ proxied (neighbour (h .n) (i - 1) (firstOf h me + p1)) p → Standing h table me r
       unfolding goal
-      stands-proxied q low proxy x r y =
+      stands-proxied r y =
           let b = stand .here .sound in
           let far : me ≡ p .dst → ⊥ = λ z. stand .dst-apart (sym z) in
-          rw (y, low) (record {
+          rw y (record {
             here = stand .here;
             packet = record {
               dst-fits = stand .packet .dst-fits;
-              proxy-fits = λ z. rw x (proxy-in-hall h s me p b (stand .here .fits) far p1 i suits);
-              retry-fits = omega (arith, stand .packet .retry-fits);
+              proxy-fits = λ z. proxy-in-hall h s me p b (stand .here .fits) far p1 i suits;
+              retry-fits = stand .packet .retry-fits;
             };
             dst-apart = stand .dst-apart;
-            goal-apart = λ z. proxy-away h s me p b (stand .here .fits) far p1 i suits (sym (sym x ∙ z));
+            goal-apart = λ z. proxy-away h s me p b (stand .here .fits) far p1 i suits (sym z);
             alive = stand .alive;
           })
+
+    -- so what a reroute makes of it stands there
+    module _ (s : Seen) (arrived : Bool) (r : Packet) where
+      by-found : (n1 n2 m : ℕ) → link ≡ Link n1 n2 m
+          → (found : Candidate) → found ≡ choice h s (placeOf h me) (m + pick (both arrived (ltb m (h .k))) 1 0)
+          → turnBy h me p found ≡ Again r → Standing h table me r
+      by-found n1 n2 m e candidate.Nothing c t = absurd (let w : _≡_ {A = ℕ} 0 1 = cc in omega arith)
+      by-found n1 n2 m e (candidate.At p1 i) c t =
+          stands-proxied n1 n2 m e arrived (m + pick (both arrived (ltb m (h .k))) 1 0) refl s (candidate.At p1 i) c p1 i refl r (again-one t)
+
+      by-link : (l : Crossing) → link ≡ l → turnOf h s me l p arrived ≡ Again r → Standing h table me r
+      unfolding turnOf
+      by-link Nothing e t = stands-cleared r (again-one t)
+      by-link (Link n1 n2 m) e t = by-found n1 n2 m e (choice h s (placeOf h me) (m + pick (both arrived (ltb m (h .k))) 1 0)) refl t
+
+      pub stands-again : turnOf h s me link p arrived ≡ Again r → Standing h table me r
+      stands-again = by-link link refl
 
 -- a packet that nothing refuses, tidied
 module _ (h : Hall) (packet p : Packet) (is : p ≡ tidied packet) where

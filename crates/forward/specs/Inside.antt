@@ -1,14 +1,14 @@
 -- What the functions inside a step ask and answer, behind the refusals.
 -- Section "One forwarding step".
 use mathlib.Core.Path.{_≡_}
-use mathlib.Core.Bool.{true, not}
+use mathlib.Core.Bool.{Bool, true, not}
 use mathlib.Core.List.{List, [], _∷_}
-use Prim.Native.Nat.{ℕ, _+_, _<_, _≤_}
+use Prim.Native.Nat.{ℕ, _+_, _-_, _<_, _≤_}
 use lib.Dec.{eqb, ltb}
 use lib.ListN.{length}
-use Rattle.combine.specs.Tests.{pick, either}
+use Rattle.combine.specs.Tests.{pick, both, either}
 use Rattle.hall.specs.declared.Hall.{Hall}
-use Rattle.hall.specs.Cells.{same}
+use Rattle.hall.specs.Cells.{same, neighbour}
 use Rattle.hall.specs.Halls.{valid, servers}
 use Rattle.hall.specs.Refusals.{Ask, bad-uid, most-retry}
 use Rattle.ports.specs.Codes.{tableLength, cellLength}
@@ -19,8 +19,15 @@ use Rattle.local.specs.Local.{none, cellSize, placeOf, firstOf}
 use Rattle.forward.specs.declared.Packet.{Packet}
 use Rattle.forward.specs.declared.Way.{Way}
 use Rattle.forward.specs.declared.Way.the-variants.{To, Closed, Unreached}
-use Rattle.forward.specs.Packets.{goal}
+use Rattle.forward.specs.declared.Outlook.{Outlook}
+use Rattle.forward.specs.declared.Outlook.the-variants.{Next, NoRoute, Blocked}
+use Rattle.forward.specs.declared.Turned.{Turned}
+use Rattle.forward.specs.declared.Turned.the-variants.{Again, NoProxy}
+use Rattle.forward.specs.declared.Candidate.{Candidate}
+use Rattle.forward.specs.declared.Candidate.the-variants as candidate
+use Rattle.forward.specs.Packets.{cleared, proxied, goal}
 use Rattle.forward.specs.Seen.{Seen}
+use Rattle.forward.specs.Proxies.{choice}
 use Rattle.forward.specs.Answers.{asksRetry}
 
 -- the way to a local target: its local next hop where it can be reached
@@ -34,6 +41,26 @@ wayTo h s me target =
 unfoldable pub wayOver : Hall → Seen → ℕ → ℕ → Crossing → Way
 wayOver h s me goal Nothing = wayTo h s me goal
 wayOver h s me goal (Link n1 n2 m) = pick (s .usable m (placeOf h n1)) (pick (eqb me n1) (To n2) (wayTo h s me n1)) Closed
+
+-- what lies before a packet for a destination, by the first link above b and the way on
+abbrev pub outlookBy : Hall → ℕ → ℕ → Crossing → Way → Outlook
+outlookBy h me dst link (To u) = Next u
+outlookBy h me dst link Closed = Blocked link
+outlookBy h me dst link Unreached = pick (same (h .n) (h .b) me dst) NoRoute (Blocked link)
+
+-- and towards a goal
+unfoldable pub outlookOf : Hall → Seen → ℕ → ℕ → ℕ → Outlook
+outlookOf h s me dst goal = outlookBy h me dst (firstLink h me goal) (wayOver h s me goal (firstLink h me goal))
+
+-- the packet with p1's neighbour at a level for its proxy
+abbrev pub turnBy : Hall → ℕ → Packet → Candidate → Turned
+turnBy h me p candidate.Nothing = NoProxy
+turnBy h me p (candidate.At p1 i) = Again (proxied (neighbour (h .n) (i - 1) (firstOf h me + p1)) p)
+
+-- what a reroute makes of a packet, for the link that is out (or none)
+unfoldable pub turnOf : Hall → Seen → ℕ → Crossing → Packet → Bool → Turned
+turnOf h s me Nothing p arrived = Again (cleared p)
+turnOf h s me (Link n1 n2 m) p arrived = turnBy h me p (choice h s (placeOf h me) (m + pick (both arrived (ltb m (h .k))) 1 0))
 
 -- what a packet at a server is asked, in a hall of so many servers
 abbrev pub asksBelow : ℕ → ℕ → Packet → List Ask

@@ -19,7 +19,7 @@ ghost use Rattle.forward.specs.Proxies.{choice};
 ghost use Rattle.forward.specs.Steps.{stepFrom, rerouteOn, step};
 ghost use Rattle.forward.specs.Journeys.{trip};
 ghost use Rattle.forward.specs.Answers.{most-passed, refusedStep, stepOf, journeyFrom, refusedJourney, journeyOf};
-ghost use Rattle.forward.specs.Inside.{Here, Target, Ahead, Standing, Stopped, Placed, Sound, Departing, wayTo, wayOver, asksBelow};
+ghost use Rattle.forward.specs.Inside.{Here, Target, Ahead, Standing, Stopped, Placed, Sound, Departing, wayTo, wayOver, outlookOf, turnOf, asksBelow};
 use crate::endings::DELIVERED;
 use crate::endings::DROP_PROXY;
 use crate::endings::DROP_RETRY;
@@ -76,6 +76,19 @@ enum Way {
     To { uid: u32 },
     Closed,
     Unreached,
+}
+
+// What lies before a packet at a server: the next one, no route to its destination, or that it is blocked at the first link above b, or at none.
+enum Outlook {
+    Next { uid: u32 },
+    NoRoute,
+    Blocked { link: Crossing },
+}
+
+// What a reroute makes of a packet: one that tries again, or none where there is no proxy.
+enum Turned {
+    Again { packet: Packet },
+    NoProxy,
 }
 
 // The packet without a proxy.
@@ -359,22 +372,63 @@ fn proxy_of(h: Hall, me: u32, place: u32, level: u32) -> u32
     cells::neighbour_of(h, first + place, level).uid
 }
 
-// The step from 4 on, of a packet that came as `came`.
-fn step_from(h: Hall, table: &[u8], me: u32, came: Packet, p: Packet, arrived: bool) -> Step
-    requires { ⌜ Standing h (now table) me p ⌝ }
+// What lies before a packet for `dst` on the way to its goal.
+fn look(h: Hall, table: &[u8], me: u32, dst: u32, goal: u32) -> Outlook
+    requires { ⌜ Ahead h (now table) me goal (firstLink h me goal) ⌝ }
+    ensures { λ r. ⌜ r ≡ outlookOf h (seen h (now (table .entry))) me dst goal ⌝ }
+{
+    let link = first_link(h, me, goal);
+    match way_over(h, table, me, goal, link) {
+        Way::To { uid } => Outlook::Next { uid },
+        Way::Closed => Outlook::Blocked { link },
+        Way::Unreached => {
+            if share_cell(h, me, dst) {
+                return Outlook::NoRoute;
+            }
+            Outlook::Blocked { link }
+        }
+    }
+}
+
+// The packet that goes by another way: without its proxy where no link is out, else with a new one.
+fn turn(h: Hall, table: &[u8], me: u32, link: Crossing, p: Packet, arrived: bool) -> Turned
+    requires { ⌜ Stopped h (now table) me link p ⌝ }
+    ensures { λ r. ⌜ r ≡ turnOf h (seen h (now (table .entry))) me link p arrived ⌝ }
+{
+    match link {
+        Crossing::Nothing => Turned::Again { packet: cleared(p) },
+        Crossing::Link {
+            near: _,
+            far: _,
+            level,
+        } => {
+            match choose(h, table, me, first_level(h, level, arrived)) {
+                Candidate::Nothing => Turned::NoProxy,
+                Candidate::At { place, level: at } => Turned::Again {
+                    packet: proxied(proxy_of(h, me, place, at), p),
+                },
+            }
+        }
+    }
+}
+
+// The step from 4 on, of a packet that came as `came`, by what lies before it.
+fn step_from(
+    h: Hall,
+    table: &[u8],
+    me: u32,
+    came: Packet,
+    p: Packet,
+    arrived: bool,
+    outlook: Outlook,
+) -> Step
+    requires { ⌜ Standing h (now table) me p × (outlook ≡ outlookOf h (seen h (now table)) me (came .dst) (goal p)) ⌝ }
     ensures { λ r. ⌜ r ≡ stepFrom h (seen h (now (table .entry))) me came p arrived ⌝ }
 {
-    let to = goal(p);
-    let link = first_link(h, me, to);
-    match way_over(h, table, me, to, link) {
-        Way::To { uid } => sent(uid, p),
-        Way::Closed => reroute(h, table, me, came, link, p, arrived),
-        Way::Unreached => {
-            if share_cell(h, me, came.dst) {
-                return ended(DROP_ROUTE, came);
-            }
-            reroute(h, table, me, came, link, p, arrived)
-        }
+    match outlook {
+        Outlook::Next { uid } => sent(uid, p),
+        Outlook::NoRoute => ended(DROP_ROUTE, came),
+        Outlook::Blocked { link } => reroute(h, table, me, came, link, p, arrived),
     }
 }
 
@@ -394,21 +448,11 @@ fn reroute(
     if p.retry <= 1 {
         return ended(DROP_RETRY, came);
     }
-    let q = retried(p);
-    match link {
-        Crossing::Nothing => counted(step_from(h, table, me, came, cleared(q), false)),
-        Crossing::Link {
-            near: _,
-            far: _,
-            level,
-        } => {
-            match choose(h, table, me, first_level(h, level, arrived)) {
-                Candidate::Nothing => ended(DROP_PROXY, came),
-                Candidate::At { place, level: at } => {
-                    let proxy = proxy_of(h, me, place, at);
-                    counted(step_from(h, table, me, came, proxied(proxy, q), false))
-                }
-            }
+    match turn(h, table, me, link, retried(p), arrived) {
+        Turned::NoProxy => ended(DROP_PROXY, came),
+        Turned::Again { packet } => {
+            let outlook = look(h, table, me, came.dst, goal(packet));
+            counted(step_from(h, table, me, came, packet, false, outlook))
         }
     }
 }
@@ -426,9 +470,12 @@ fn step_at(h: Hall, table: &[u8], me: u32, packet: Packet) -> Step
         return ended(DROP_TTL, p);
     }
     if is_arrived(me, p) {
-        return step_from(h, table, me, p, cleared(p), true);
+        let q = cleared(p);
+        let outlook = look(h, table, me, p.dst, goal(q));
+        return step_from(h, table, me, p, q, true, outlook);
     }
-    step_from(h, table, me, p, p, false)
+    let outlook = look(h, table, me, p.dst, goal(p));
+    step_from(h, table, me, p, p, false, outlook)
 }
 
 // Whether the packet's proxy, if it has one, is among so many servers.

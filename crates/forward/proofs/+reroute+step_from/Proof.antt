@@ -5,7 +5,7 @@ use Prim.Native.Nat.{ℕ, _+_, _*_, _<_}
 use native.Mathlib.Omega.{arith}
 use borrow.Author.Needs.{needs}
 use Rattle.forward.specs.declared.Packet.{Packet}
-use Rattle.forward.proofs.CodeSteps.{step-goes, step-closed, step-drops, step-unreached, reroute-last, reroute-clears, reroute-misses, reroute-sets, step-few, stands-ahead, stands-stopped, stands-cleared, stands-proxied, level-low, placed}
+use Rattle.forward.proofs.CodeSteps.{step-goes, step-drops, step-blocked, reroute-last, reroute-misses, reroute-again, turn-retry, step-few, stands-ahead, looked, stands-blocked, stopped-retried, stands-again}
 use borrow.Fn.Kinds.{In}
 use borrow.Fn.PlainCycle.{Measures, is, falls, and}
 use Rattle.forward.proofs.reroute.Reads as reroute
@@ -14,19 +14,13 @@ use Rattle.forward.proofs.+reroute+step_from.Lts-reroute as reroute-lts
 use Rattle.forward.proofs.step_from.Reads as step-from
 use Rattle.forward.proofs.step_from.Kinds as step-from-kinds
 use Rattle.forward.proofs.+reroute+step_from.Lts-step_from as step-from-lts
-use Rattle.forward.proofs.choose.Reads as choose-reads
-use Rattle.forward.proofs.cleared.Reads as cleared-reads
 use Rattle.forward.proofs.counted.Reads as counted-reads
 use Rattle.forward.proofs.ended.Reads as ended-reads
-use Rattle.forward.proofs.first_level.Reads as first-level-reads
 use Rattle.forward.proofs.goal.Reads as goal-reads
-use Rattle.forward.proofs.proxied.Reads as proxied-reads
-use Rattle.forward.proofs.proxy_of.Reads as proxy-of-reads
+use Rattle.forward.proofs.look.Reads as look-reads
 use Rattle.forward.proofs.retried.Reads as retried-reads
 use Rattle.forward.proofs.sent.Reads as sent-reads
-use Rattle.forward.proofs.share_cell.Reads as share-cell-reads
-use Rattle.forward.proofs.way_over.Reads as way-over-reads
-use Rattle.forward.proofs.first_link.Reads as first-link-reads
+use Rattle.forward.proofs.turn.Reads as turn-reads
 use Rattle.forward.proofs.+reroute+step_from.{statement}
 use Rattle.forward.proofs.+reroute+step_from.Tie.{close}
 
@@ -56,38 +50,26 @@ reroute-env t = (
   ended-reads.Learnt,
   retried-reads.Asked,
   retried-reads.Learnt,
-  cleared-reads.Asked,
-  cleared-reads.Learnt,
+  turn-reads.Asked,
+  turn-reads.Learnt,
+  goal-reads.Asked,
+  goal-reads.Learnt,
+  look-reads.Asked,
+  look-reads.Learnt,
   step-from-below t,
   step-from.Post,
   counted-reads.Asked,
   counted-reads.Learnt,
-  first-level-reads.Asked,
-  first-level-reads.Learnt,
-  choose-reads.Asked,
-  choose-reads.Learnt,
-  proxy-of-reads.Asked,
-  proxy-of-reads.Learnt,
-  proxied-reads.Asked,
-  proxied-reads.Learnt,
 )
 
 abbrev step-from-env : ℕ → step-from-lts.Claims
 step-from-env t = (
-  goal-reads.Asked,
-  goal-reads.Learnt,
-  first-link-reads.Asked,
-  first-link-reads.Learnt,
-  way-over-reads.Asked,
-  way-over-reads.Learnt,
   sent-reads.Asked,
   sent-reads.Learnt,
-  reroute-below t,
-  reroute.Post,
-  share-cell-reads.Asked,
-  share-cell-reads.Learnt,
   ended-reads.Asked,
   ended-reads.Learnt,
+  reroute-below t,
+  reroute.Post,
 )
 
 reroute-ended-requires : (t : ℕ) → reroute-lts.Need-ended-requires (reroute-env t) (reroute-at t) reroute.Post
@@ -99,16 +81,32 @@ reroute-returns t c = c .ended .ensures ∙ sym (reroute-last _ _ _ _ _ _ _ _ (c
 reroute-retried-requires : (t : ℕ) → reroute-lts.Need-retried-requires (reroute-env t) (reroute-at t) reroute.Post
 reroute-retried-requires t c κs = omega arith
 
+reroute-turn-requires : (t : ℕ) → reroute-lts.Need-turn-requires (reroute-env t) (reroute-at t) reroute.Post
+reroute-turn-requires t c κs = stopped-retried _ _ _ _ _ (c .before .before .before .before .pre .1) _ (c .retried .ensures)
+
 reroute-enum-told : (t : ℕ) → reroute-lts.Need-enum-told (reroute-env t) (reroute-at t) reroute.Post
 reroute-enum-told t c = search needs
 
-reroute-cleared-requires : (t : ℕ) → reroute-lts.Need-cleared-requires (reroute-env t) (reroute-at t) reroute.Post
-reroute-cleared-requires t c κs = search needs
+reroute-ended-requires-2 : (t : ℕ) → reroute-lts.Need-ended-requires-2 (reroute-env t) (reroute-at t) reroute.Post
+reroute-ended-requires-2 t c κs = search needs
+
+reroute-enum-known-packet : (t : ℕ) → reroute-lts.Need-enum-known-packet (reroute-env t) (reroute-at t) reroute.Post
+reroute-enum-known-packet t c = search needs
+
+reroute-goal-requires : (t : ℕ) → reroute-lts.Need-goal-requires (reroute-env t) (reroute-at t) reroute.Post
+reroute-goal-requires t c κs = search needs
+
+reroute-look-requires : (t : ℕ) → reroute-lts.Need-look-requires (reroute-env t) (reroute-at t) reroute.Post
+reroute-look-requires t c κs =
+    stands-ahead _ _ _ _ (stands-again _ _ _ _ _ (stopped-retried _ _ _ _ _ (c .before .before .before .before .before .before .before .before .before .pre .1) _ (c .before .before .before .before .before .retried .ensures)) _ (c .before .before .before .before .before .before .before .before .before .args .arrived) _ (sym (c .before .before .before .before .turn .ensures) ∙ c .before .before .packet .given .1)) _ (c .goal .ensures)
 
 reroute-step-from-requires : (t : ℕ) → reroute-lts.Need-step-from-requires (reroute-env t) (reroute-at t) reroute.Post
 reroute-step-from-requires t c κs = (
-  omega (arith, ap (λ (x : Packet). x .retry) (c .cleared .ensures), ap (λ (x : Packet). x .retry) (c .before .before .before .retried .ensures)),
-  stands-cleared _ _ _ _ _ (c .before .before .before .before .before .before .before .pre .1) _ (c .before .before .before .retried .ensures) _ (c .cleared .ensures),
+  omega (arith, turn-retry _ _ _ _ _ _ _ (sym (c .before .before .before .before .before .turn .ensures) ∙ c .before .before .before .packet .given .1), ap (λ (x : Packet). x .retry) (c .before .before .before .before .before .before .retried .ensures)),
+  (
+    stands-again _ _ _ _ _ (stopped-retried _ _ _ _ _ (c .before .before .before .before .before .before .before .before .before .before .pre .1) _ (c .before .before .before .before .before .before .retried .ensures)) _ (c .before .before .before .before .before .before .before .before .before .before .args .arrived) _ (sym (c .before .before .before .before .before .turn .ensures) ∙ c .before .before .before .packet .given .1),
+    looked _ (c .before .before .before .before .before .before .before .before .before .before .args .table .now) _ _ _ _ _ _ (c .before .goal .ensures) (c .look .ensures),
+  ),
 )
 
 reroute-counted-requires : (t : ℕ) → reroute-lts.Need-counted-requires (reroute-env t) (reroute-at t) reroute.Post
@@ -116,118 +114,49 @@ reroute-counted-requires t c κs =
     omega (
       arith,
       step-few _ _ _ _ _ _ _ (c .step-from .ensures),
-      ap (λ (x : Packet). x .retry) (c .before .cleared .ensures),
-      ap (λ (x : Packet). x .retry) (c .before .before .before .before .retried .ensures),
-      c .before .before .before .before .before .before .before .before .pre .1 .standing .packet .retry-fits,
-    )
-
-reroute-enum-known-link : (t : ℕ) → reroute-lts.Need-enum-known-link (reroute-env t) (reroute-at t) reroute.Post
-reroute-enum-known-link t c = search needs
-
-reroute-first-level-requires : (t : ℕ) → reroute-lts.Need-first-level-requires (reroute-env t) (reroute-at t) reroute.Post
-reroute-first-level-requires t c κs =
-    level-low _ _ _ _ _ (c .before .before .before .before .before .before .before .pre .1) _ _ _ (c .before .link .given .1)
-
-reroute-choose-requires : (t : ℕ) → reroute-lts.Need-choose-requires (reroute-env t) (reroute-at t) reroute.Post
-reroute-choose-requires t c κs = c .before .before .before .before .before .before .before .before .pre .1 .standing .here
-
-reroute-enum-told-2 : (t : ℕ) → reroute-lts.Need-enum-told-2 (reroute-env t) (reroute-at t) reroute.Post
-reroute-enum-told-2 t c = search needs
-
-reroute-ended-requires-2 : (t : ℕ) → reroute-lts.Need-ended-requires-2 (reroute-env t) (reroute-at t) reroute.Post
-reroute-ended-requires-2 t c κs = search needs
-
-reroute-enum-known-place : (t : ℕ) → reroute-lts.Need-enum-known-place (reroute-env t) (reroute-at t) reroute.Post
-reroute-enum-known-place t c = search needs
-
-reroute-proxy-of-requires : (t : ℕ) → reroute-lts.Need-proxy-of-requires (reroute-env t) (reroute-at t) reroute.Post
-reroute-proxy-of-requires t c κs =
-    placed _ _ _ _ _ (c .before .before .before .before .before .before .before .before .before .before .before .before .pre .1) _ _ _ (c .before .before .before .before .before .before .link .given .1) (c .before .before .before .before .before .before .before .before .before .before .before .before .args .arrived) _ (c .before .before .before .before .first-level .ensures) _ _ (c .before .before .before .choose .ensures) _ _ (c .before .place .given .1)
-
-reroute-proxied-requires : (t : ℕ) → reroute-lts.Need-proxied-requires (reroute-env t) (reroute-at t) reroute.Post
-reroute-proxied-requires t c κs = search needs
-
-reroute-step-from-requires-2 : (t : ℕ) → reroute-lts.Need-step-from-requires-2 (reroute-env t) (reroute-at t) reroute.Post
-reroute-step-from-requires-2 t c κs = (
-  omega (arith, ap (λ (x : Packet). x .retry) (c .proxied .ensures), ap (λ (x : Packet). x .retry) (c .before .before .before .before .before .before .before .before .before .before .retried .ensures)),
-  stands-proxied _ _ _ _ _ (c .before .before .before .before .before .before .before .before .before .before .before .before .before .before .pre .1) _ _ _ (c .before .before .before .before .before .before .before .before .link .given .1) (c .before .before .before .before .before .before .before .before .before .before .before .before .before .before .args .arrived) _ (c .before .before .before .before .before .before .first-level .ensures) _ _ (c .before .before .before .before .before .choose .ensures) _ _ (c .before .before .before .place .given .1)
-      _ (c .before .before .before .before .before .before .before .before .before .before .retried .ensures) _ (c .before .proxy-of .ensures) _ (c .proxied .ensures),
-)
-
-reroute-counted-requires-2 : (t : ℕ) → reroute-lts.Need-counted-requires-2 (reroute-env t) (reroute-at t) reroute.Post
-reroute-counted-requires-2 t c κs =
-    omega (
-      arith,
-      step-few _ _ _ _ _ _ _ (c .step-from2 .ensures),
-      ap (λ (x : Packet). x .retry) (c .before .proxied .ensures),
-      ap (λ (x : Packet). x .retry) (c .before .before .before .before .before .before .before .before .before .before .before .retried .ensures),
-      c .before .before .before .before .before .before .before .before .before .before .before .before .before .before .before .pre .1 .standing .packet .retry-fits,
+      turn-retry _ _ _ _ _ _ _ (sym (c .before .before .before .before .before .before .turn .ensures) ∙ c .before .before .before .before .packet .given .1),
+      ap (λ (x : Packet). x .retry) (c .before .before .before .before .before .before .before .retried .ensures),
+      c .before .before .before .before .before .before .before .before .before .before .before .pre .1 .standing .packet .retry-fits,
     )
 
 reroute-returns-2 : (t : ℕ) → reroute-lts.Need-returns-2 (reroute-env t) (reroute-at t) reroute.Post
 reroute-returns-2 t c =
-    reroute-clears _ _ _ _ _ _ (c .before .before .before .before .before .before .if1 .left) _ (c .before .before .before .before .before .retried .ensures) _ (c .before .before .before .enum-told .given .1) _ _ _ (c .before .before .cleared .ensures) (c .before .step-from .ensures) (c .counted .ensures)
+    reroute-misses _ _ _ _ _ _ (c .before .before .before .before .before .if1 .left) _ (c .before .before .before .before .retried .ensures) _ _ (c .before .before .before .turn .ensures) _ (c .before .enum-told .given .1) (c .ended2 .ensures)
 
 reroute-returns-3 : (t : ℕ) → reroute-lts.Need-returns-3 (reroute-env t) (reroute-at t) reroute.Post
 reroute-returns-3 t c =
-    reroute-misses _ _ _ _ _ _ (c .before .before .before .before .before .before .before .before .before .if1 .left) _ (c .before .before .before .before .before .before .before .before .retried .ensures) _ _ _ _ (c .before .before .before .before .before .before .link .given .1) _ (c .before .before .before .before .first-level .ensures) _ (c .before .before .before .choose .ensures) (c .before .enum-told2 .given .1) _ (c .ended2 .ensures)
+    reroute-again _ _ _ _ _ _ (c .before .before .before .before .before .before .before .before .before .if1 .left) _ (c .before .before .before .before .before .before .before .before .retried .ensures) _ _ (c .before .before .before .before .before .before .before .turn .ensures) _ (c .before .before .before .before .before .packet .given .1) _ _ (c .before .step-from .ensures) (c .counted .ensures)
 
-reroute-returns-4 : (t : ℕ) → reroute-lts.Need-returns-4 (reroute-env t) (reroute-at t) reroute.Post
-reroute-returns-4 t c =
-    reroute-sets _ _ _ _ _ _ (c .before .before .before .before .before .before .before .before .before .before .before .before .before .if1 .left) _ (c .before .before .before .before .before .before .before .before .before .before .before .before .retried .ensures) _ _ _ _ (c .before .before .before .before .before .before .before .before .before .before .link .given .1) _ (c .before .before .before .before .before .before .before .before .first-level .ensures) _ (c .before .before .before .before .before .before .before .choose .ensures)
-    _ _ (c .before .before .before .before .before .place .given .1) _ (c .before .before .before .proxy-of .ensures) _ _ _ (c .before .before .proxied .ensures) (c .before .step-from2 .ensures) (c .counted2 .ensures)
-
-step-from-goal-requires : (t : ℕ) → step-from-lts.Need-goal-requires (step-from-env t) (step-from-at t) step-from.Post
-step-from-goal-requires t c κs = search needs
-
-step-from-first-link-requires : (t : ℕ) → step-from-lts.Need-first-link-requires (step-from-env t) (step-from-at t) step-from.Post
-step-from-first-link-requires t c κs = search needs
-
-step-from-way-over-requires : (t : ℕ) → step-from-lts.Need-way-over-requires (step-from-env t) (step-from-at t) step-from.Post
-step-from-way-over-requires t c κs =
-    stands-ahead _ _ _ _ (c .before .before .before .pre .1) _ _ (c .before .goal .ensures) (c .first-link .ensures)
-
-step-from-enum-known-uid : (t : ℕ) → step-from-lts.Need-enum-known-uid (step-from-env t) (step-from-at t) step-from.Post
-step-from-enum-known-uid t c = search needs
+step-from-enum-known-outlook : (t : ℕ) → step-from-lts.Need-enum-known-outlook (step-from-env t) (step-from-at t) step-from.Post
+step-from-enum-known-outlook t c = search needs
 
 step-from-sent-requires : (t : ℕ) → step-from-lts.Need-sent-requires (step-from-env t) (step-from-at t) step-from.Post
-step-from-sent-requires t c κs = c .before .before .before .before .before .before .before .pre .1 .alive
+step-from-sent-requires t c κs = c .before .before .before .before .pre .1 .0 .alive
 
 step-from-enum-told : (t : ℕ) → step-from-lts.Need-enum-told (step-from-env t) (step-from-at t) step-from.Post
 step-from-enum-told t c = search needs
 
-step-from-reroute-requires : (t : ℕ) → step-from-lts.Need-reroute-requires (step-from-env t) (step-from-at t) step-from.Post
-step-from-reroute-requires t c κs =
-    (omega arith, stands-stopped _ _ _ _ (c .before .before .before .before .before .before .pre .1) _ _ (c .before .before .before .before .goal .ensures) (c .before .before .before .first-link .ensures))
-
-step-from-enum-told-2 : (t : ℕ) → step-from-lts.Need-enum-told-2 (step-from-env t) (step-from-at t) step-from.Post
-step-from-enum-told-2 t c = search needs
-
-step-from-share-cell-requires : (t : ℕ) → step-from-lts.Need-share-cell-requires (step-from-env t) (step-from-at t) step-from.Post
-step-from-share-cell-requires t c κs = c .before .before .before .before .before .before .pre .1 .here .sound
-
 step-from-ended-requires : (t : ℕ) → step-from-lts.Need-ended-requires (step-from-env t) (step-from-at t) step-from.Post
 step-from-ended-requires t c κs = search needs
 
+step-from-enum-known-outlook-2 : (t : ℕ) → step-from-lts.Need-enum-known-outlook-2 (step-from-env t) (step-from-at t) step-from.Post
+step-from-enum-known-outlook-2 t c = search needs
+
+step-from-reroute-requires : (t : ℕ) → step-from-lts.Need-reroute-requires (step-from-env t) (step-from-at t) step-from.Post
+step-from-reroute-requires t c κs =
+    (omega arith, stands-blocked _ _ _ _ (c .before .before .before .before .pre .1 .0) _ _ _ (c .before .before .before .before .pre .1 .1) _ (c .before .outlook2 .given .1))
+
 step-from-returns : (t : ℕ) → step-from-lts.Need-returns (step-from-env t) (step-from-at t) step-from.Post
 step-from-returns t c =
-    step-drops _ _ _ _ _ _ _ (c .before .before .before .before .before .before .before .goal .ensures) _ (c .before .before .before .before .before .before .first-link .ensures) _ (c .before .before .before .before .before .way-over .ensures) (c .before .before .before .enum-told2 .given .1) _ (c .before .before .share-cell .ensures) _ (c .before .if1 .taken) (c .ended .ensures)
-
-step-from-reroute-requires-2 : (t : ℕ) → step-from-lts.Need-reroute-requires-2 (step-from-env t) (step-from-at t) step-from.Post
-step-from-reroute-requires-2 t c κs =
-    (omega arith, stands-stopped _ _ _ _ (c .before .before .before .before .before .before .before .before .pre .1) _ _ (c .before .before .before .before .before .before .goal .ensures) (c .before .before .before .before .before .first-link .ensures))
+    step-goes _ _ _ _ _ (c .before .before .before .before .before .args .arrived) _ (c .before .before .before .before .before .pre .1 .1) _ _ (c .before .before .outlook .given .1) (c .sent .ensures)
 
 step-from-returns-2 : (t : ℕ) → step-from-lts.Need-returns-2 (step-from-env t) (step-from-at t) step-from.Post
 step-from-returns-2 t c =
-    step-goes _ _ _ _ _ _ _ (c .before .before .before .before .before .before .goal .ensures) _ (c .before .before .before .before .before .first-link .ensures) _ (c .before .before .before .before .way-over .ensures) _ _ (c .before .before .uid .given .1) (c .sent .ensures)
+    step-drops _ _ _ _ _ (c .before .before .before .before .args .arrived) _ (c .before .before .before .before .pre .1 .1) _ (c .before .enum-told .given .1) (c .ended .ensures)
 
 step-from-returns-3 : (t : ℕ) → step-from-lts.Need-returns-3 (step-from-env t) (step-from-at t) step-from.Post
 step-from-returns-3 t c =
-    step-closed _ _ _ _ _ _ _ (c .before .before .before .before .before .goal .ensures) _ (c .before .before .before .before .first-link .ensures) _ (c .before .before .before .way-over .ensures) _ (c .before .enum-told .given .1) (c .reroute .ensures)
-
-step-from-returns-4 : (t : ℕ) → step-from-lts.Need-returns-4 (step-from-env t) (step-from-at t) step-from.Post
-step-from-returns-4 t c =
-    step-unreached _ _ _ _ _ _ _ (c .before .before .before .before .before .before .before .goal .ensures) _ (c .before .before .before .before .before .before .first-link .ensures) _ (c .before .before .before .before .before .way-over .ensures) (c .before .before .before .enum-told2 .given .1) _ (c .before .before .share-cell .ensures) _ (c .before .if1 .left) (c .reroute2 .ensures)
+    step-blocked _ _ _ _ _ (c .before .before .before .before .before .args .arrived) _ (c .before .before .before .before .before .pre .1 .1) _ _ (c .before .before .outlook2 .given .1) (c .reroute .ensures)
 
 pub +reroute+step-from-spec : {M : Type 1} → statement M
 +reroute+step-from-spec =
@@ -236,36 +165,23 @@ pub +reroute+step-from-spec : {M : Type 1} → statement M
     (reroute-ended-requires t)
     (reroute-returns t)
     (reroute-retried-requires t)
+    (reroute-turn-requires t)
     (reroute-enum-told t)
-    (reroute-cleared-requires t)
+    (reroute-ended-requires-2 t)
+    (reroute-enum-known-packet t)
+    (reroute-goal-requires t)
+    (reroute-look-requires t)
     (reroute-step-from-requires t)
     (reroute-counted-requires t)
-    (reroute-enum-known-link t)
-    (reroute-first-level-requires t)
-    (reroute-choose-requires t)
-    (reroute-enum-told-2 t)
-    (reroute-ended-requires-2 t)
-    (reroute-enum-known-place t)
-    (reroute-proxy-of-requires t)
-    (reroute-proxied-requires t)
-    (reroute-step-from-requires-2 t)
-    (reroute-counted-requires-2 t)
     (reroute-returns-2 t)
-    (reroute-returns-3 t)
-    (reroute-returns-4 t))
+    (reroute-returns-3 t))
     (λ t. step-from-lts.spec (step-from-env t) (step-from-at t) step-from.Post
-    (step-from-goal-requires t)
-    (step-from-first-link-requires t)
-    (step-from-way-over-requires t)
-    (step-from-enum-known-uid t)
+    (step-from-enum-known-outlook t)
     (step-from-sent-requires t)
     (step-from-enum-told t)
-    (step-from-reroute-requires t)
-    (step-from-enum-told-2 t)
-    (step-from-share-cell-requires t)
     (step-from-ended-requires t)
+    (step-from-enum-known-outlook-2 t)
+    (step-from-reroute-requires t)
     (step-from-returns t)
-    (step-from-reroute-requires-2 t)
     (step-from-returns-2 t)
-    (step-from-returns-3 t)
-    (step-from-returns-4 t))
+    (step-from-returns-3 t))
