@@ -19,7 +19,7 @@ abbrev pub perSwitch : List ℕ → ℕ
 perSwitch sizes = getD sizes 0 0
 
 -- these are the sizes t(0) .. t(k) of a hall
-pub record Sized (sizes : List ℕ) (k : ℕ) : Type 0 where
+pub record HallSizes (sizes : List ℕ) (k : ℕ) : Type 0 where
   pub sized : (i : ℕ) → i ≤ k → getD sizes i 0 ≡ t (perSwitch sizes) i
   pub positive : 0 < perSwitch sizes
   pub levels : k < places
@@ -27,7 +27,7 @@ pub record Sized (sizes : List ℕ) (k : ℕ) : Type 0 where
 -- the DCell of a level of such a hall, by its first uid, and two places inside it
 pub record Inside (sizes : List ℕ) (level first from to : ℕ) : Type 0 where
   pub top : ℕ
-  pub hall : Sized sizes top
+  pub hall : HallSizes sizes top
   pub low : level ≤ top
   pub number : ℕ
   pub starts : first ≡ number * t (perSwitch sizes) level

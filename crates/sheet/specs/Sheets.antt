@@ -56,11 +56,13 @@ packet limit = and-then (uid limit) (λ source. and-then (uid limit) (λ dst. an
 abbrev pub packets : ℕ → ℕ → Format
 packets limit packetCount = times packetCount (packet limit)
 
--- the sections behind the hall's: its table, and the packets, whose count it is read for
+-- what stands behind the codes: the packets, whose count it is read for
+abbrev pub behindCodes : ℕ → ℕ → Format
+behindCodes limit v = and-then (any 4) (λ packetCount. and-then (packets limit packetCount) (λ v. done packetCount))
+
+-- the sections behind the hall's: its table, and the packets
 unfoldable pub tablesOf : Hall → Format
-tablesOf h =
-    and-then (count (tableLength h)) (λ bytes. and-then (codes bytes) (λ v.
-    and-then (any 4) (λ packetCount. and-then (packets (servers h) packetCount) (λ v. done packetCount))))
+tablesOf h = and-then (count (tableLength h)) (λ bytes. and-then (codes bytes) (behindCodes (servers h)))
 
 -- each section after a 4-byte big-endian count
 unfoldable pub nightSheet : Format

@@ -11,8 +11,8 @@ use Rattle.hall.specs.Halls.{servers}
 use Rattle.sheet.specs.declared.Sheet.{Sheet}
 use Rattle.words.specs.Words.{value, Bytes, bytesOf}
 use Rattle.words.proofs.Words.{drop-bytes}
-use Rattle.sheet.specs.Formats.{Format, done, and-then}
-use Rattle.sheet.specs.Sheets.{any, codes, packet, packets, times, tablesOf, nightSheet}
+use Rattle.sheet.specs.Formats.{done, and-then}
+use Rattle.sheet.specs.Sheets.{behindCodes, codes, packet, packets, times, tablesOf, nightSheet}
 use Rattle.sheet.specs.Answers.{countPlace, codesPlace, codeCountOf, hallIn, acceptedAs, sheetOf, packetPlace}
 use Rattle.sheet.specs.Accepted.{packetCountOf}
 use Rattle.sheet.proofs.Places.{count-place}
@@ -29,10 +29,6 @@ packets-alike : (p q : ℕ → SheetPacket) (i so-many : ℕ) → ((j : ℕ) →
 unfolding packetsBytes
 packets-alike p q i zero e = refl
 packets-alike p q i (suc so-many) e = rw (e i (omega arith), packets-alike p q (suc i) so-many (λ j l. e j (omega arith)))
-
--- what stands behind the codes
-abbrev behindCodes : ℕ → ℕ → Format
-behindCodes limit v = and-then (any 4) (λ packetCount. and-then (packets limit packetCount) (λ v. done packetCount))
 
 -- the values that stand in a sheet, laid: those of the packets, and of what is behind the codes
 module _ (s : List ℕ) (limit : ℕ) where

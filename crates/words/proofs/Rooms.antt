@@ -9,14 +9,14 @@ use lib.Seq.{length-take-le, take-at, drop-append-add, drop-drop, set-split, tak
 use borrow.Author.Tests.{le-leb, lt-leb}
 use Rattle.words.specs.Rooms.{put, roomy, roomOf}
 
+pub put-one : (room : List ℕ) (at byte : ℕ) → at < length room → set room at byte ≡ put room at (byte ∷ [])
+unfolding put
+put-one room at byte h = set-split room at byte h ∙ rw (add-one at) (sym (append-assoc (take at room) (byte ∷ []) (drop (suc at) room)))
+
 module _ (room : List ℕ) (at : ℕ) where
   pub put-none : put room at [] ≡ room
   unfolding put
   put-none = let z : at + 0 ≡ at = omega arith in rw (z, append-nil (take at room)) (take-append-drop at room)
-
-  pub put-one : (byte : ℕ) → at < length room → set room at byte ≡ put room at (byte ∷ [])
-  unfolding put
-  put-one byte h = set-split room at byte h ∙ rw (add-one at) (sym (append-assoc (take at room) (byte ∷ []) (drop (suc at) room)))
 
   head-length : (bytes : List ℕ) → at ≤ length room → length (take at room ++ bytes) ≡ at + length bytes
   head-length bytes h = omega (arith, length-append (take at room) bytes, length-take-le at room h)
@@ -45,10 +45,7 @@ module _ (room : List ℕ) (at : ℕ) where
   unfolding put
   put-byte a byte next e h =
       let k : next < length (put room at a) = omega (arith, length-put a (omega arith)) in
-      rw e (put-one-at (put room at a) (at + length a) byte (omega arith) ∙ put-put a (byte ∷ []) (omega arith))
-    where
-      put-one-at : (room : List ℕ) (at byte : ℕ) → at < length room → set room at byte ≡ put room at (byte ∷ [])
-      put-one-at room at byte h = set-split room at byte h ∙ rw (add-one at) (sym (append-assoc (take at room) (byte ∷ []) (drop (suc at) room)))
+      rw e (put-one (put room at a) (at + length a) byte (omega arith) ∙ put-put a (byte ∷ []) (omega arith))
 
   -- stores one after another
   pub sets-put : (bytes : List ℕ) → at + length bytes ≤ length room → sets room at bytes ≡ put room at bytes

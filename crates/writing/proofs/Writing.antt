@@ -13,7 +13,7 @@ use Rattle.combine.specs.Tests.{pick}
 use Rattle.combine.proofs.Tests.{cases}
 use Rattle.hall.specs.declared.Hall.{Hall}
 use Rattle.hall.specs.Halls.{nFits, kFits, bFits, servers}
-use Rattle.hall.specs.Refusals.{bad-hall, bad-uid, bad-length, bad-code, bad-header}
+use Rattle.hall.specs.Refusals.{bad-hall, bad-uid, bad-length, bad-code, bad-header, most-retry}
 use Rattle.ports.specs.Codes.{known, firstUnknown, tableLength}
 use Rattle.sheet.specs.declared.Field.{Field}
 use Rattle.sheet.specs.declared.Field.the-variants.{Value, Refused}
@@ -21,7 +21,7 @@ use Rattle.sheet.specs.declared.Sheet.{Sheet}
 use Rattle.words.specs.Words.{value, bytesOf}
 use Rattle.words.proofs.Bytes.{bytes-long, value-laid, drop-laid}
 use Rattle.sheet.specs.Formats.{done, and-then}
-use Rattle.sheet.specs.Sheets.{longest, packet, packets, times, tablesOf, nightSheet}
+use Rattle.sheet.specs.Sheets.{behindCodes, longest, packet, packets, times, tablesOf, nightSheet}
 use Rattle.sheet.specs.Answers.{countPlace, codesPlace, codeCountOf, told, sheetOf}
 use Rattle.sheet.proofs.Places.{codes-behind, count-place}
 use Rattle.sheet.proofs.Reading.{onward}
@@ -30,7 +30,7 @@ use Rattle.sheetparts.specs.declared.SheetPacket.{SheetPacket}
 use Rattle.sheetparts.specs.Encoding.{packetBytes, packetsBytes, encodingOf}
 use Rattle.laying.proofs.Lists.{every-map}
 use Rattle.laying.specs.Filled.{ended, result, laid, judged, All, Fits, fill-then, each, joined, Every}
-use Rattle.writing.specs.Writing.{filledCode, filledPacket, behindCodes, filledSheet, sheetFor, toldFor, writerSays, listed, PacketHeld, Held, HallBytes, fieldsOf}
+use Rattle.writing.specs.Writing.{filledCode, filledPacket, filledSheet, sheetFor, toldFor, writerSays, listed, PacketHeld, Held, HallBytes, fieldsOf}
 use Rattle.laying.proofs.Reading.{read-laid, judged-all, judged-sound, laid-then, judged-then, each-next, all-then, laid-each, all-each}
 
 -- a code is its byte, and a packet its ten
@@ -194,7 +194,7 @@ sheet-stands h codes list bytes held short =
 
 -- what the writer's checks are, one by one, in the fields' order
 pub judged-packet : (limit : ℕ) (p : SheetPacket) (at : ℕ) → judged (filledPacket limit p) at
-    ≡ pick (ltb (p .source) limit) (pick (ltb (p .dst) limit) (pick (leb (p .retry) 15) (Value (p .ttl) (at + 4 + 4 + 1 + 1))
+    ≡ pick (ltb (p .source) limit) (pick (ltb (p .dst) limit) (pick (leb (p .retry) most-retry) (Value (p .ttl) (at + 4 + 4 + 1 + 1))
     (Refused bad-header (at + 4 + 4))) (Refused bad-uid (at + 4))) (Refused bad-uid at)
 unfolding judged filledPacket packet and-then
 judged-packet limit p at = refl
@@ -207,15 +207,15 @@ module _ (limit source dst retry ttl at : ℕ) where
   pub dst-wrong : source < limit → limit ≤ dst → Refused bad-uid (at + 4) ≡ judged (filledPacket limit (fieldsOf source dst retry ttl)) at
   dst-wrong a b = rw (judged-packet limit (fieldsOf source dst retry ttl) at, lt-ltb source limit a, le-ltb dst limit b)
 
-  pub retry-wrong : source < limit → dst < limit → 15 < retry → Refused bad-header (at + 8) ≡ judged (filledPacket limit (fieldsOf source dst retry ttl)) at
+  pub retry-wrong : source < limit → dst < limit → most-retry < retry → Refused bad-header (at + 8) ≡ judged (filledPacket limit (fieldsOf source dst retry ttl)) at
   retry-wrong a b d =
       let e : at + 8 ≡ at + 4 + 4 = omega arith in
-      rw (judged-packet limit (fieldsOf source dst retry ttl) at, lt-ltb source limit a, lt-ltb dst limit b, lt-leb retry 15 d) (ap (λ (n : ℕ). Refused bad-header n) e)
+      rw (judged-packet limit (fieldsOf source dst retry ttl) at, lt-ltb source limit a, lt-ltb dst limit b, lt-leb retry most-retry d) (ap (λ (n : ℕ). Refused bad-header n) e)
 
-  pub all-right : source < limit → dst < limit → retry ≤ 15 → Value ttl (at + 10) ≡ judged (filledPacket limit (fieldsOf source dst retry ttl)) at
+  pub all-right : source < limit → dst < limit → retry ≤ most-retry → Value ttl (at + 10) ≡ judged (filledPacket limit (fieldsOf source dst retry ttl)) at
   all-right a b d =
       let e : at + 10 ≡ at + 4 + 4 + 1 + 1 = omega arith in
-      rw (judged-packet limit (fieldsOf source dst retry ttl) at, lt-ltb source limit a, lt-ltb dst limit b, le-leb retry 15 d) (ap (λ (n : ℕ). Value ttl n) e)
+      rw (judged-packet limit (fieldsOf source dst retry ttl) at, lt-ltb source limit a, lt-ltb dst limit b, le-leb retry most-retry d) (ap (λ (n : ℕ). Value ttl n) e)
 
 -- a packet takes ten bytes
 pub packet-next : (limit : ℕ) (p : SheetPacket) (at v next : ℕ) → judged (filledPacket limit p) at ≡ Value v next → next ≡ at + 10

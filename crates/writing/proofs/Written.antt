@@ -9,6 +9,7 @@ use lib.Dec.{leb, ltb}
 use lib.ListN.{length, take, drop, length-append, length-drop}
 use lib.Seq.{drop-drop, take-at, drop-append-add}
 use borrow.Author.Tests.{ltb-false, le-ltb, le-leb, eq-eqb, lt-ltb}
+use Rattle.hall.specs.Refusals.{most-retry}
 use Rattle.combine.proofs.Tests.{cases}
 use Rattle.hall.specs.declared.Hall.{Hall}
 use Rattle.hall.specs.Halls.{valid, servers}
@@ -18,7 +19,7 @@ use Rattle.sheet.specs.declared.Field.the-variants.{Value, Refused}
 use Rattle.words.specs.Words.{Bytes, bytesOf}
 use Rattle.words.proofs.Bytes.{bytes-long, value-laid, value-fits, drop-laid}
 use Rattle.sheet.specs.Formats.{and-then, done}
-use Rattle.sheet.specs.Sheets.{longest, packet, packets, tablesOf, nightSheet}
+use Rattle.sheet.specs.Sheets.{behindCodes, longest, packet, packets, tablesOf, nightSheet}
 use Rattle.sheet.specs.Answers.{codesPlace, codeCountOf, acceptedAs, sheetOf, packetPlace, hallIn}
 use Rattle.sheet.proofs.Numbers.{numbers-sheet}
 use Rattle.sheet.proofs.Held.{accepted-holds, long, holds-accepted, hall-fields}
@@ -29,7 +30,7 @@ use Rattle.sheetparts.proofs.Parts.{codes-there, codes-answered, packet-answere
 use Rattle.ports.specs.Codes.{known, tableLength}
 use Rattle.laying.proofs.Lists.{every-map, at-every}
 use Rattle.laying.specs.Filled.{result, judged, All, Sound, joined, Every, ended, each}
-use Rattle.writing.specs.Writing.{filledSheet, sheetFor, toldFor, writerSays, listed, packetOf, packetsRead, plain, PacketHeld, Held, HallBytes, filledCode, filledPacket, behindCodes, PacketSound}
+use Rattle.writing.specs.Writing.{filledSheet, sheetFor, toldFor, writerSays, listed, packetFrom, packetsRead, plain, PacketHeld, Held, HallBytes, filledCode, filledPacket, PacketSound}
 use Rattle.laying.proofs.Reading.{judged-all, judged-sound, judged-numbers, result-then, all-then, all-each}
 use Rattle.sheetparts.proofs.Encoding.{accepted-encoding}
 use Rattle.writing.proofs.Relaid.{part-bytes}
@@ -69,7 +70,7 @@ sound-hall h codes list ok = rw (ok .1 .0, ok .1 .1 .0, ok .1 .1 .1 .0)
 -- a sheet of sound values
 packet-filled : (limit : ℕ) (p : SheetPacket) → PacketSound limit p → Sound (filledPacket limit p)
 unfolding All filledPacket and-then packet
-packet-filled limit p h = (lt-ltb (p .source) limit (h .source), (lt-ltb (p .dst) limit (h .dst), (le-leb (p .retry) 15 (h .retry), (refl, tt))))
+packet-filled limit p h = (lt-ltb (p .source) limit (h .source), (lt-ltb (p .dst) limit (h .dst), (le-leb (p .retry) most-retry (h .retry), (refl, tt))))
 
 code-filled : (c : ℕ) → known c ≡ true → Sound (filledCode c)
 unfolding All
@@ -107,7 +108,7 @@ hall-bytes h e = let v = valid-known h e in record { n = omega arith; k = omega 
 
 -- packet i by its bytes
 packet-stands : (list : List SheetPacket) (i : ℕ) → i < length list
-    → (post : List ℕ) × (drop (10 * i) (joined packetBytes list) ≡ packetBytes (packetOf list i) ++ post)
+    → (post : List ℕ) × (drop (10 * i) (joined packetBytes list) ≡ packetBytes (packetFrom list i) ++ post)
 unfolding joined
 packet-stands [] i b = absurd (omega arith)
 packet-stands (p ∷ list) zero b = (joined packetBytes list, refl)
@@ -158,16 +159,16 @@ module _ (h : Hall) (codes : List ℕ) (list : List SheetPacket) (held : Held co
       sym (codes-there s (omega (arith, long s a)) ∙ codes-answered s (sheetOf s) refl (ap (λ x. x .refusal) reads-back))
       ∙ rw (w .second, w .codes-part) (take-at codes _ (length codes) refl)
 
-  pub packet-back-at : (i : ℕ) → i < length list → packetAt (sheetFor h codes list) i ≡ plain (packetOf list i)
+  pub packet-back-at : (i : ℕ) → i < length list → packetAt (sheetFor h codes list) i ≡ plain (packetFrom list i)
   unfolding packetPlace
   packet-back-at i b =
       let s = sheetFor h codes list in
       let w = stands in
       let r = packet-stands list i b in
       let at = codesPlace s + length codes + 4 in
-      let d : drop (at + 10 * i) s ≡ packetBytes (packetOf list i) ++ r .0 = sym (drop-drop (10 * i) at s) ∙ rw (w .packets-part) (r .1) in
+      let d : drop (at + 10 * i) s ≡ packetBytes (packetFrom list i) ++ r .0 = sym (drop-drop (10 * i) at s) ∙ rw (w .packets-part) (r .1) in
       sym (packet-answered s (sheetOf s) refl i (ap (λ x. x .refusal) reads-back) (omega (arith, ap (λ x. x .packets) reads-back)))
-      ∙ rw (w .second) (packet-back s (at + 10 * i) (packetOf list i) (r .0) (at-every PacketHeld (packetRefused 0 0) list (held .fields) i b) d)
+      ∙ rw (w .second) (packet-back s (at + 10 * i) (packetFrom list i) (r .0) (at-every PacketHeld (packetRefused 0 0) list (held .fields) i b) d)
 
 every-listed : (P : SheetPacket → Type 0) (packet : ℕ → SheetPacket) (i so-many : ℕ) → ((j : ℕ) → j < i + so-many → P (packet j)) → Every P (listed packet i so-many)
 unfolding Every listed

@@ -7,12 +7,12 @@ use lib.ListN.{length, getD}
 use Rattle.combine.specs.Tests.{pick}
 use Rattle.hall.specs.declared.Hall.{Hall}
 use Rattle.hall.specs.Halls.{servers}
-use Rattle.hall.specs.Refusals.{bad-sheet, short-room}
+use Rattle.hall.specs.Refusals.{bad-sheet, short-room, most-retry}
 use Rattle.sheet.specs.declared.Field.{Field}
 use Rattle.sheet.specs.declared.Field.the-variants.{Value, Refused}
 use Rattle.sheet.specs.declared.Sheet.{Sheet}
-use Rattle.sheet.specs.Formats.{Format, done, and-then}
-use Rattle.sheet.specs.Sheets.{longest, any, code, packet, packets, tablesOf, nightSheet}
+use Rattle.sheet.specs.Formats.{done, and-then}
+use Rattle.sheet.specs.Sheets.{behindCodes, longest, code, packet, packets, tablesOf, nightSheet}
 use Rattle.sheet.specs.Answers.{refusedAt, acceptedAs, sheetOf}
 use Rattle.sheetparts.specs.declared.SheetPacket.{SheetPacket}
 use Rattle.sheetparts.specs.Parts.{packetRefused, packetAt}
@@ -24,10 +24,6 @@ filledCode c = put c ended
 unfoldable pub filledPacket : (limit : ℕ) → SheetPacket → Filled (packet limit)
 unfolding packet and-then
 filledPacket limit p = put (p .source) (put (p .dst) (put (p .retry) (put (p .ttl) ended)))
-
--- what stands behind the codes
-abbrev pub behindCodes : ℕ → ℕ → Format
-behindCodes limit v = and-then (any 4) (λ packetCount. and-then (packets limit packetCount) (λ v. done packetCount))
 
 -- each count is what is there: the codes', and the packets'
 unfoldable pub filledSheet : Hall → List ℕ → List SheetPacket → Filled nightSheet
@@ -62,8 +58,9 @@ unfoldable pub listed : (ℕ → SheetPacket) → ℕ → ℕ → List SheetPack
 listed packet i zero = []
 listed packet i (suc so-many) = packet i ∷ listed packet (suc i) so-many
 
-abbrev pub packetOf : List SheetPacket → ℕ → SheetPacket
-packetOf list i = getD list i (packetRefused 0 0)
+-- packet i of a list, one that is refused where it has none
+abbrev pub packetFrom : List SheetPacket → ℕ → SheetPacket
+packetFrom list i = getD list i (packetRefused 0 0)
 
 -- a packet's fields, as they are read
 abbrev pub plain : SheetPacket → SheetPacket
@@ -91,11 +88,11 @@ pub record HallBytes (h : Hall) : Type 0 where
 abbrev pub packetsRead : List ℕ → List SheetPacket
 packetsRead s = listed (packetAt s) 0 (sheetOf s .packets)
 
--- source and dst below t(k), retry at most 15
+-- source and dst below t(k), retry at most the greatest
 pub record PacketSound (limit : ℕ) (p : SheetPacket) : Type 0 where
   pub source : p .source < limit
   pub dst : p .dst < limit
-  pub retry : p .retry ≤ 15
+  pub retry : p .retry ≤ most-retry
 
 abbrev pub fieldsOf : ℕ → ℕ → ℕ → ℕ → SheetPacket
 fieldsOf source dst retry ttl = record { refusal = 0; place = 0; source = source; dst = dst; retry = retry; ttl = ttl }
