@@ -1,0 +1,10 @@
+-- The laws.
+pub mod Figures
+pub mod Around
+pub mod Pairs
+pub mod Ports
+pub mod Links
+pub mod Loads
+pub mod Lengths
+pub mod Evenly
+pub mod Meaning

@@ -1,0 +1,2 @@
+-- The definitions that counting is stated by.
+pub mod Sums
