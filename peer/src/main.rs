@@ -1,5 +1,6 @@
 //! Compares the proved calls with the separate implementation, measures the one against the other, works out the paper's tables,
-//! traces a night sheet with the separate implementation alone, and draws the example sheet.
+//! counts the routes over each link and from each port, traces a night sheet with the separate implementation alone, and draws the
+//! example sheet.
 
 #![deny(unsafe_code)]
 
@@ -14,7 +15,7 @@ use std::process::ExitCode;
 use std::time::{SystemTime, UNIX_EPOCH};
 
 use compare::failures::{self, Side};
-use compare::{bench, ratios::Form, table1, tally::Effort};
+use compare::{bench, load, ratios::Form, table1, tally::Effort};
 use peer::report;
 use peer::sheet::SHEET_ROOM;
 
@@ -23,6 +24,8 @@ const USAGE: &str = "\
 usage: peer compare [--seed S] [--long]   compare every call on random inputs
        peer bench [--seed S] [--markdown] measure every call against the peer
        peer table1 [--seed S]             work out the paper's Table 1 with the proved route
+       peer load [--markdown]             count the routes over each link and from each port with the proved route
+                                          (--markdown: print the proved figures of every hall instead)
        peer failures [--seed S] [--peer]  trace packets around failures with the proved journey (--peer: the peer's),
                                           beside the paper's Table 2
        peer trace                         trace the sheet on standard input with the peer
@@ -36,6 +39,7 @@ enum Work {
     Compare { seed: Option<u64>, effort: Effort },
     Bench { seed: Option<u64>, form: Form },
     Table1 { seed: Option<u64> },
+    Load { form: Form },
     Failures { seed: Option<u64>, side: Side },
     Trace,
     Example,
@@ -62,6 +66,7 @@ fn done(work: Work) -> bool {
             true
         }
         Work::Table1 { seed } => table1::run(seed.unwrap_or_else(fresh_seed)),
+        Work::Load { form } => load::run(form),
         Work::Failures { seed, side } => {
             failures::run(seed.unwrap_or_else(fresh_seed), side);
             true
@@ -92,7 +97,7 @@ fn parse(words: &[String]) -> Option<Work> {
                 side = Side::Peer;
                 behind
             }
-            ("--markdown", _) if name == "bench" => {
+            ("--markdown", _) if name == "bench" || name == "load" => {
                 form = Form::Markdown;
                 behind
             }
@@ -103,6 +108,7 @@ fn parse(words: &[String]) -> Option<Work> {
         "compare" => Some(Work::Compare { seed, effort }),
         "bench" => Some(Work::Bench { seed, form }),
         "table1" => Some(Work::Table1 { seed }),
+        "load" if seed.is_none() => Some(Work::Load { form }),
         "failures" => Some(Work::Failures { seed, side }),
         "trace" if words.len() == 1 => Some(Work::Trace),
         "example" if words.len() == 1 => Some(Work::Example),
@@ -157,6 +163,11 @@ mod tests {
         assert_eq!(parsed("bench --seed 7"), benched(Some(7), Form::Lines));
         assert_eq!(parsed("bench --markdown"), benched(None, Form::Markdown));
         assert_eq!(parsed("table1"), Some(Work::Table1 { seed: None }));
+        assert_eq!(parsed("load"), Some(Work::Load { form: Form::Lines }));
+        let table = Work::Load {
+            form: Form::Markdown,
+        };
+        assert_eq!(parsed("load --markdown"), Some(table));
         let failed = |seed, side| Some(Work::Failures { seed, side });
         assert_eq!(parsed("failures --seed 7"), failed(Some(7), Side::Rattle));
         assert_eq!(parsed("failures --peer"), failed(None, Side::Peer));
@@ -175,6 +186,9 @@ mod tests {
             "compare short",
             "bench --long",
             "table1 --long",
+            "load --seed 1",
+            "load --markdown --seed 1",
+            "load --long",
             "failures --long",
             "failures --markdown",
             "bench --peer",

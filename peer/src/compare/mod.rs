@@ -9,6 +9,7 @@ mod events;
 pub mod failures;
 mod frames;
 mod inputs;
+pub mod load;
 mod numbers;
 mod packets;
 mod pairs;

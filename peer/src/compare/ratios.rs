@@ -9,7 +9,7 @@ pub struct Measure {
     pub ratios: Vec<f64>,
 }
 
-/// How ratios are printed.
+/// How ratios are printed, and how the load of halls is, a line or a row for each hall.
 #[derive(Debug, Clone, Copy, PartialEq, Eq)]
 pub enum Form {
     /// A line for each case.

@@ -8,14 +8,14 @@ use super::sums::{Figures, Sums};
 use crate::rattle;
 
 /// A figure that differs from the paper's by more than this is a failure.
-const TOLERANCE: f64 = 0.02;
+pub const TOLERANCE: f64 = 0.02;
 /// The random pairs of a hall that has too many for all of them.
 const SAMPLE: u32 = 1_000_000;
 /// The highest top level of which all pairs are taken.
 const ALL_PAIRS: u32 = 2;
 
 /// The rows of the paper's table for its routing: n, k, mean and standard deviation.
-const ROWS: [(u32, u32, Figures); 6] = [
+pub const ROWS: [(u32, u32, Figures); 6] = [
     (4, 2, [5.16, 1.42]),
     (5, 2, [5.50, 1.33]),
     (6, 2, [5.73, 1.25]),
