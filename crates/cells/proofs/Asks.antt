@@ -2,18 +2,18 @@
 use mathlib.Core.Path.{_≡_, refl, sym, _∙_}
 use mathlib.Core.Bool.{true, false, not}
 use mathlib.Core.List.{[], _∷_}
-use Prim.Native.Nat.{ℕ, _<_, _≤_}
+use Prim.Native.Nat.{ℕ, _-_, _<_, _≤_}
 use lib.Dec.{eqb, leb, ltb}
-use borrow.Author.Tests.{eq-eqb, ne-eqb, eqb-false, not-true, ltb-true, leb-true, le-leb, lt-leb}
+use borrow.Author.Tests.{eq-eqb, ne-eqb, eqb-false, not-true, ltb-true, lt-ltb, leb-true, le-leb, lt-leb}
 use Rattle.combine.specs.Tests.{pick, both}
 use Rattle.combine.proofs.Tests.{both-left, both-right, both-false}
 use Rattle.hall.specs.declared.Hall.{Hall}
 use Rattle.hall.specs.Refusals.{refusal, inOrder, bad-range}
 use Rattle.hall.specs.Halls.{valid, servers, asksHall, asksUid, asksLevel}
-use Rattle.hall.specs.Cells.{g}
+use Rattle.hall.specs.Cells.{g, neighbour}
 use Rattle.hall.proofs.Asks.{Hold, unrefused-hold, refused-before, decided-after}
 use Rattle.hall.proofs.Growth.{Valid, valid-known}
-use Rattle.cells.specs.Answers.{subcellsFit, asksLink}
+use Rattle.cells.specs.Answers.{neighbourOf, subcellsFit, asksLink}
 
 -- the test of an answer, where a call has worked out its refusal
 pub refused-test : {r m : ℕ} → r ≡ m → (r ≡ 0 → ⊥) → eqb m 0 ≡ false
@@ -100,3 +100,8 @@ link-known h u i p q e =
       q-below = ltb-true q (g (h .n) i) (both-right pb qb pq);
       apart = eqb-false p q (not-true (eqb p q) (both-right (both pb qb) (not (eqb p q)) fit));
     }
+
+-- what the neighbour call answers where nothing is refused
+pub neighbour-told : (h : Hall) (u i : ℕ) → valid h ≡ true → u < servers h → 0 < i → i ≤ h .k → neighbourOf h u i .uid ≡ neighbour (h .n) (i - 1) u
+unfolding refusal
+neighbour-told h u i v l low high = rw (v, lt-ltb u (servers h) l, le-leb 1 i low, le-leb i (h .k) high)

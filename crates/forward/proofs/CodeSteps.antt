@@ -7,20 +7,21 @@ use native.Mathlib.Nat.{div-add-mod'}
 use native.Mathlib.Numerals.{sub-one}
 use native.Mathlib.Omega.{arith}
 use lib.Dec.{eqb, ltb}
-use borrow.Author.Tests.{eqb-false, eq-eqb, ne-eqb, lt-ltb, le-leb, not-true}
+use borrow.Author.Tests.{eqb-false, eq-eqb, ne-eqb, not-true}
 use Rattle.combine.specs.Tests.{pick, both}
 use Rattle.combine.proofs.Tests.{cases, never, both-left, both-right}
 use Rattle.hall.specs.declared.Hall.{Hall}
-use Rattle.hall.specs.Refusals.{refusal}
 use Rattle.hall.specs.Cells.{cell, same, neighbour}
 use Rattle.hall.specs.Halls.{top, servers, largest}
 use Rattle.hall.proofs.Growth.{Valid, valid-known, uid-fits}
 use Rattle.cells.specs.declared.Neighbour.{Neighbour}
 use Rattle.cells.specs.Answers.{neighbourOf}
+use Rattle.cells.proofs.Asks.{neighbour-told}
 use Rattle.route.specs.declared.Crossing.{Crossing}
 use Rattle.route.specs.declared.Crossing.the-variants.{Link, Nothing}
 use Rattle.route.specs.Answers.{firstLink}
 use Rattle.local.specs.Local.{none, cellSize, placeOf, firstOf}
+use Rattle.local.proofs.Uids.{uid-within}
 use Rattle.forward.specs.declared.Packet.{Packet}
 use Rattle.forward.specs.declared.Step.{Step}
 use Rattle.forward.specs.declared.Way.{Way}
@@ -40,7 +41,6 @@ use Rattle.forward.proofs.Passes.{step-passes}
 use Rattle.forward.proofs.Steps.{last-pass}
 use Rattle.forward.proofs.Chosen.{choice-at}
 use Rattle.forward.proofs.Links as ahead
-use Rattle.forward.proofs.Links.{place-in}
 use Rattle.forward.proofs.Hops.{Suits, proxy-in-hall, proxy-away}
 
 -- a packet that tries again is told whole
@@ -157,14 +157,12 @@ module _ (h : Hall) (me place level : ℕ) (a : Placed h me place level) (count 
   pub uid-fits-in : me - me % count + place < largest
   uid-fits-in =
       let v = valid-known h (a .sound) in
-      rw (first-of h me count e) (uid-fits h v (firstOf h me + place) (place-in h v me place (a .fits) (a .inside)))
+      rw (first-of h me count e) (uid-fits h v (firstOf h me + place) (uid-within h me place v (a .fits) (a .inside)))
 
   pub proxy-is : (r : Neighbour) → r ≡ neighbourOf h (me - me % count + place) level → r .uid ≡ neighbour (h .n) (level - 1) (firstOf h me + place)
-  unfolding refusal
   proxy-is r q =
-      let v = valid-known h (a .sound) in
-      let l = place-in h v me place (a .fits) (a .inside) in
-      rw (q, first-of h me count e, a .sound, lt-ltb (firstOf h me + place) (servers h) l, le-leb 1 level (a .low), le-leb level (h .k) (a .high))
+      let l = uid-within h me place (valid-known h (a .sound)) (a .fits) (a .inside) in
+      rw (q, first-of h me count e) (neighbour-told h (firstOf h me + place) level (a .sound) l (a .low) (a .high))
 
 module _ (h : Hall) (table : List ℕ) (me : ℕ) (p : Packet) where
   -- a packet that stands at a server has a way before it
