@@ -126,6 +126,14 @@ fn table_calls_answer_any_numbers_and_bytes() {
         assert!(!ports::is_up(h, &whole, x, port) || port <= h.k);
         let (refusal, part) = ports::part(h, &whole, x);
         assert_eq!(refusal == 0, !part.is_empty());
+        let mut lent = vec![0xEE; random.below(120) as usize];
+        match ports::step_table(h, &whole, x, &mut lent) {
+            0 => assert!(lent.starts_with(part) && refusal == 0),
+            number => {
+                assert!(number == refusal || (refusal, number) == (0, 6));
+                assert!(lent.iter().all(|&byte| byte == 0xEE));
+            }
+        }
         let away = local::distances(h, x, &own);
         assert!(away.refusal == 0 || away.distance == [0; 72]);
         let hop = local::next_hop(h, x, uid(&mut random, h), &own);

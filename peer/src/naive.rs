@@ -88,7 +88,7 @@ fn crossing(h: Hall, x: u32, y: u32, level: u32) -> (u32, u32) {
 }
 
 /// The neighbour of a server at a level above 0: of all sub-cells the one whose link with its own ends at it.
-fn neighbour(h: Hall, uid: u32, level: u32) -> u32 {
+pub fn neighbour(h: Hall, uid: u32, level: u32) -> u32 {
     let t = size(h.n, level - 1);
     let first = uid / size(h.n, level) * size(h.n, level);
     let others = (first..first + size(h.n, level)).step_by(t as usize);

@@ -1,6 +1,6 @@
-//! The port codes of a hall: the check of a hall table and the part of it that one server's DCell(b) has.
+//! The port codes of a hall: the check of a hall table, the part of it that one server's DCell(b) has, and the table lent to a step.
 
-use crate::hall::{self, Hall, Scale};
+use crate::hall::{self, partner, Hall, Scale};
 use crate::refusal;
 
 /// The one code that counts as up.
@@ -36,17 +36,70 @@ pub fn check(h: Hall, table: &[u8]) -> TableCheck {
 
 /// The refusal, or the part of the hall table that holds the DCell(b) of a server.
 pub fn part(h: Hall, table: &[u8], uid: u32) -> (u32, &[u8]) {
-    let Some(scale) = hall::scale(h) else {
-        return (refusal::HALL, &[]);
+    match own_cell(h, table, uid) {
+        Ok((scale, first)) => (refusal::NONE, cell_part(scale, h.k, table, first, h.b)),
+        Err(refusal) => (refusal, &[]),
+    }
+}
+
+/// Writes the table lent to a step of a server to the start of the room: the part of the hall table for its DCell(b), and behind it the
+/// code of the far port for each server there and each level above b.
+pub fn step_table(h: Hall, table: &[u8], uid: u32, room: &mut [u8]) -> u32 {
+    let (scale, first) = match own_cell(h, table, uid) {
+        Ok(found) => found,
+        Err(refusal) => return refusal,
     };
+    let part = cell_part(scale, h.k, table, first, h.b);
+    let far_codes = scale.size(h.b) as usize * (h.k - h.b) as usize;
+    let Some(written) = room.get_mut(..part.len() + far_codes) else {
+        return refusal::ROOM;
+    };
+    let (near, far) = written.split_at_mut(part.len());
+    near.copy_from_slice(part);
+    put_far_codes(scale, h, table, first, far);
+    refusal::NONE
+}
+
+/// Fills the room with the codes of the far ports for the DCell(b) that begins at server `first`, which is in one sub-cell of each level.
+#[inline]
+fn put_far_codes(scale: &Scale, h: Hall, table: &[u8], first: u32, far: &mut [u8]) {
+    let ports = h.k as usize + 1;
+    let levels = (h.k - h.b) as usize;
+    let mut inside = first;
+    for below in (h.b..h.k).rev() {
+        let size = scale.size(below);
+        let around = first - inside;
+        let sub_cell = scale.cells_below(inside, below);
+        inside -= sub_cell * size;
+        let neighbour = around + partner(size, sub_cell, inside);
+        let mut place = neighbour as usize * ports + below as usize + 1;
+        let stride = size as usize * ports;
+        let codes = far.iter_mut().skip((below - h.b) as usize).step_by(levels);
+        for (next, code) in (inside + 1..).zip(codes) {
+            if let Some(&found) = table.get(place) {
+                *code = found;
+            }
+            // The next neighbour is one sub-cell farther on, or two and one server where the own sub-cell lies between.
+            place += if next == sub_cell {
+                2 * stride + ports
+            } else {
+                stride
+            };
+        }
+    }
+}
+
+/// The scale of the hall and the first server of the DCell(b) of a server, or the refusal of the hall, the table or the uid.
+#[inline]
+fn own_cell(h: Hall, table: &[u8], uid: u32) -> Result<(&'static Scale, u32), u32> {
+    let scale = hall::scale(h).ok_or(refusal::HALL)?;
     if table.len() != scale.table_length(h.k, h.k) {
-        return (refusal::LENGTH, &[]);
+        return Err(refusal::LENGTH);
     }
     if uid >= scale.size(h.k) {
-        return (refusal::UID, &[]);
+        return Err(refusal::UID);
     }
-    let first = scale.first(uid, h.b);
-    (refusal::NONE, cell_part(scale, h.k, table, first, h.b))
+    Ok((scale, scale.first(uid, h.b)))
 }
 
 /// The part of a hall table for the DCell(level) that begins at server `first`.
@@ -175,6 +228,106 @@ mod tests {
         assert_eq!(part(HALL, &[1; 41], 99), (4, none));
         assert_eq!(part(HALL, &[1; 40], 20), (2, none));
         assert_eq!(part(HALL, &[7; 40], 19).0, 0);
+    }
+
+    /// The hall table whose byte at each place is the place, modulo 256.
+    fn places(h: Hall) -> Vec<u8> {
+        let codes = naive::servers(h) * (h.k + 1);
+        (0..codes).map(|place| place as u8).collect()
+    }
+
+    /// The table of a step over that hall table, with three bytes behind it that stay as lent.
+    fn written(h: Hall, uid: u32, length: usize) -> Vec<u8> {
+        let mut room = vec![0xEE; length + 3];
+        assert_eq!(step_table(h, &places(h), uid, &mut room), 0);
+        assert_eq!(room[length..], [0xEE; 3]);
+        room.truncate(length);
+        room
+    }
+
+    #[test]
+    fn servers_0_and_1_are_joined_to_2_and_4_at_level_1() {
+        let h = Hall { n: 2, k: 1, b: 0 };
+        for uid in [0, 1] {
+            assert_eq!(written(h, uid, 6), [0, 1, 2, 3, 5, 9]);
+        }
+    }
+
+    #[test]
+    fn servers_6_to_11_are_joined_to_0_13_19_25_31_and_37_at_level_2() {
+        let h = Hall { n: 2, k: 2, b: 1 };
+        let mut own: Vec<u8> = (18..36).collect();
+        own.extend([2, 41, 59, 77, 95, 113]);
+        for uid in 6..12 {
+            assert_eq!(written(h, uid, 24), own);
+        }
+    }
+
+    #[test]
+    fn servers_2_and_3_are_joined_to_0_and_5_at_level_1_and_to_18_and_24_at_level_2() {
+        let h = Hall { n: 2, k: 2, b: 0 };
+        for uid in [2, 3] {
+            assert_eq!(written(h, uid, 10), [6, 7, 8, 9, 10, 11, 1, 56, 16, 74]);
+        }
+    }
+
+    #[test]
+    fn a_hall_of_top_level_b_has_no_far_code() {
+        assert_eq!(written(Hall { n: 2, k: 0, b: 0 }, 1, 2), [0, 1]);
+        let whole: Vec<u8> = (0..40).collect();
+        assert_eq!(written(Hall { n: 4, k: 1, b: 1 }, 19, 40), whole);
+    }
+
+    #[test]
+    fn each_far_code_is_that_of_the_neighbours_port() {
+        let mut random = Random::new(5);
+        for h in naive::small_halls() {
+            let ports = h.k as usize + 1;
+            let codes = naive::servers(h) as usize * ports;
+            let table: Vec<u8> = (0..codes).map(|_| random.byte()).collect();
+            let t = naive::size(h.n, h.b);
+            for first in (0..naive::servers(h)).step_by(t as usize) {
+                let mut literal = part(h, &table, first).1.to_vec();
+                for server in first..first + t {
+                    for level in h.b + 1..=h.k {
+                        let far = naive::neighbour(h, server, level) as usize;
+                        literal.push(table[far * ports + level as usize]);
+                    }
+                }
+                let mut room = vec![0; literal.len()];
+                let uid = first + random.below(t);
+                assert_eq!(step_table(h, &table, uid, &mut room), 0);
+                assert_eq!(room, literal, "{h:?} {uid}");
+            }
+        }
+    }
+
+    #[test]
+    fn a_refused_step_table_leaves_the_room_as_lent_and_refusals_come_in_order() {
+        let refused = |h, codes, uid, length| {
+            let mut room = vec![0xEE; length];
+            let number = step_table(h, &vec![7; codes], uid, &mut room);
+            assert_eq!(room, vec![0xEE; length]);
+            number
+        };
+        for length in [0, 11, 12, 13] {
+            for h in [(9, 1, 0), (4, 4, 0), (4, 1, 2), (1, 1, 0)] {
+                let (n, k, b) = h;
+                assert_eq!(refused(Hall { n, k, b }, 39, 99, length), 1);
+                assert_eq!(refused(Hall { n, k, b }, 40, 0, length), 1);
+            }
+            for codes in [0, 8, 39, 41] {
+                assert_eq!(refused(HALL, codes, 99, length), 4);
+                assert_eq!(refused(HALL, codes, 0, length), 4);
+            }
+            for uid in [20, 21, u32::MAX] {
+                assert_eq!(refused(HALL, 40, uid, length), 2);
+            }
+        }
+        for length in 0..12 {
+            assert_eq!(refused(HALL, 40, 19, length), 6);
+        }
+        assert_eq!(step_table(HALL, &[7; 40], 19, &mut [0; 12]), 0);
     }
 
     #[test]

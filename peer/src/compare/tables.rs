@@ -133,11 +133,17 @@ pub fn any_codes(random: &mut Random, count: usize) -> Vec<u8> {
     codes(random, count, not_up)
 }
 
+/// Any bytes.
+pub fn any_bytes(random: &mut Random, count: usize) -> Vec<u8> {
+    let words = iter::repeat_with(|| random.bits().to_le_bytes());
+    words.flatten().take(count).collect()
+}
+
 /// Known codes.
 pub fn known_codes(random: &mut Random, count: usize) -> Vec<u8> {
-    let words = iter::repeat_with(|| random.bits().to_le_bytes());
-    let bytes = words.flatten().map(|byte| byte % KNOWN);
-    bytes.take(count).collect()
+    let mut codes = any_bytes(random, count);
+    codes.iter_mut().for_each(|code| *code %= KNOWN);
+    codes
 }
 
 /// A code that is unknown.
@@ -163,9 +169,19 @@ pub fn draw_pool(seed: u64) {
 
 /// A table for any hall, mostly of the right length; a part of the pool, from any of its places on, where the hall is not light.
 pub fn any_hall_table(random: &mut Random, h: Hall) -> Table {
+    hall_table(random, h, any_codes)
+}
+
+/// Such a table, of any bytes where the hall is light.
+pub fn any_byte_table(random: &mut Random, h: Hall) -> Table {
+    hall_table(random, h, any_bytes)
+}
+
+/// Such a table, its codes drawn in a given way where the hall is light.
+fn hall_table(random: &mut Random, h: Hall, drawn: fn(&mut Random, usize) -> Vec<u8>) -> Table {
     let count = any_length(random, hall_codes(h));
     if light(h) {
-        return Table::Own(any_codes(random, count));
+        return Table::Own(drawn(random, count));
     }
     let pool = POOL.get_or_init(|| drawn_pool(TESTED_SEED));
     let start = random.below((pool.len() - count) as u32 + 1) as usize;

@@ -13,7 +13,8 @@ pub const LONGEST_LINE: usize = 2_877;
 /// A line is written before this place, unless it is refused.
 const PLACES: u32 = 4_000;
 
-/// What every comparison of a call that writes a line has to meet: a room that is a byte too short, the exact one, and one byte more.
+/// What every comparison of a call that writes a line or a table has to meet: a room that is a byte too short, the exact one, and one byte
+/// more.
 pub const FITS: &[Event] = &[
     Event::Spare {
         number: ROOM,

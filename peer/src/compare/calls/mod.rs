@@ -48,6 +48,7 @@ mod sheet_place;
 mod size_of;
 mod sizes;
 mod step;
+mod step_table;
 mod trace;
 mod trace_piece;
 mod tuple;
@@ -90,6 +91,7 @@ pub const CALLS: &[Listed] = &[
     listed::<check::Check>(),
     listed::<check_place::CheckPlace>(),
     listed::<part::Part>(),
+    listed::<step_table::StepTable>(),
     listed::<is_up::IsUp>(),
     listed::<is_known::IsKnown>(),
     listed::<first_unknown::FirstUnknown>(),

@@ -23,9 +23,9 @@ pub struct Part;
 /// A hall, a table and a server, its own or not.
 #[derive(Debug)]
 pub struct Input {
-    hall: Hall,
-    table: Table,
-    uid: u32,
+    pub hall: Hall,
+    pub table: Table,
+    pub uid: u32,
 }
 
 impl Call for Part {
@@ -89,7 +89,7 @@ fn edge_inputs(random: &mut Random, hall: Hall) -> Vec<Input> {
 }
 
 /// Any server of a sound hall, with a table of which all codes are up.
-fn sound(random: &mut Random, hall: Hall) -> Input {
+pub fn sound(random: &mut Random, hall: Hall) -> Input {
     let (table, uid) = sound_hall_table(random, hall, 0);
     Input { hall, table, uid }
 }

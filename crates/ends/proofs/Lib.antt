@@ -1,0 +1,5 @@
+-- The laws.
+pub mod Spread
+pub mod Codes
+pub mod Answers
+pub mod Tables

@@ -1,0 +1,100 @@
+//! The table lent to a step of a server: the part of a hall table that holds its DCell(b), and the codes of the far ports above b.
+
+use peer::hall::Hall;
+use peer::ports;
+use peer::random::Random;
+use peer::refusal::{HALL, LENGTH, NONE, ROOM, UID};
+
+use super::part::{sound, Input};
+use crate::compare::call::Call;
+use crate::compare::cases::{by_b, Case};
+use crate::compare::events::{Event, Met};
+use crate::compare::inputs::{any_hall, any_uid, edge_servers, sizes};
+use crate::compare::room::Room;
+use crate::compare::tables::{any_byte_table, cell_codes};
+use crate::compare::texts::FITS;
+use crate::rattle;
+
+/// The most codes of a step's table: 72 servers with four ports and two far ones.
+const MOST_CODES: usize = 432;
+
+/// The call `calls_step_table`.
+pub struct StepTable;
+
+impl Call for StepTable {
+    type Input = Input;
+    type Rooms = Room<u8>;
+
+    const NAME: &'static str = "step table";
+    const NUMBERS: &'static [u32] = &[NONE, HALL, LENGTH, UID, ROOM];
+    const EVENTS: &'static [Event] = FITS;
+    const INPUTS: u32 = 60_000;
+    const MEASURED: usize = 64;
+
+    fn any(random: &mut Random) -> Input {
+        let hall = any_hall(random);
+        let uid = any_uid(random, hall);
+        with_table(random, hall, uid)
+    }
+
+    fn edges() -> impl Iterator<Item = Input> {
+        let mut random = Random::new(0);
+        edge_servers().map(move |(hall, uid)| with_table(&mut random, hall, uid))
+    }
+
+    fn count(input: &Input, number: u32, room: &Room<u8>, met: &mut Met) {
+        let spare = room.length().checked_signed_diff(step_codes(input.hall));
+        if let (NONE | ROOM, Some(bytes @ -1..=1)) = (number, spare) {
+            met.add(Event::Spare { number, bytes });
+        }
+    }
+
+    fn rooms(input: &Input, random: &mut Random) -> Room<u8> {
+        let needed = step_codes(input.hall);
+        Room::any(random, needed, 2 * needed)
+    }
+
+    fn cases() -> Vec<Case<Input>> {
+        by_b(sound)
+    }
+
+    fn ample_rooms() -> Room<u8> {
+        Room::new(MOST_CODES)
+    }
+
+    fn rattle(input: &Input, room: &mut Room<u8>) -> u32 {
+        rattle::step_table(input.hall, &input.table, input.uid, room.lent())
+    }
+
+    fn peer(input: &Input, room: &mut Room<u8>) -> u32 {
+        ports::step_table(input.hall, &input.table, input.uid, room.lent())
+    }
+}
+
+/// A hall and a uid with any table, of any bytes where the hall is light.
+fn with_table(random: &mut Random, hall: Hall, uid: u32) -> Input {
+    let table = any_byte_table(random, hall);
+    Input { hall, table, uid }
+}
+
+/// The codes of a step's table in a sound hall, or those supposed.
+fn step_codes(h: Hall) -> usize {
+    let far = sizes(h).map_or(0, |t| t[h.b as usize] * (h.k - h.b));
+    cell_codes(h) + far as usize
+}
+
+#[cfg(test)]
+mod tests {
+    use super::*;
+
+    #[test]
+    fn the_largest_table_has_432_codes_and_one_of_top_level_b_no_far_ones() {
+        let codes = |n, k, b| step_codes(Hall { n, k, b });
+        assert_eq!(codes(8, 3, 1), MOST_CODES);
+        assert_eq!(
+            [codes(8, 3, 0), codes(2, 2, 0), codes(2, 2, 1)],
+            [56, 10, 24]
+        );
+        assert_eq!([codes(4, 0, 0), codes(4, 1, 1)], [4, 40]);
+    }
+}
