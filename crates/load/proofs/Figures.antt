@@ -66,7 +66,7 @@ module _ (n : ℕ) where
       let s : sum (λ a. load n (suc j) (suc a)) j ≡ (2 * t n j + 1) * sum (λ a. load n j (suc a)) j =
       sum-ext (λ a. load n (suc j) (suc a)) (λ a. (2 * t n j + 1) * load n j (suc a)) j (λ a h. load-up (suc a) j h)
       ∙ sum-times (2 * t n j + 1) (λ a. load n j (suc a)) j in
-      let c : cable n (suc j) ≡ (2 * t n j + 1) * cable n j = unfold cable in (ap (λ (m : ℕ). (n - 1) * m) (load-up 0 j (omega arith)) ∙ omega arith) in
+      let c : cable n (suc j) ≡ (2 * t n j + 1) * cable n j = unfold cable in (rw (load-up 0 j (omega arith)) (omega arith)) in
       omega (arith, load-top j)
 
   -- t(a + d) = t(a) × g(a + 1) × .. × g(a + d)

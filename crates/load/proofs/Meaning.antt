@@ -2,7 +2,7 @@
 use mathlib.Core.Path.{_≡_, refl, sym, _∙_, ap}
 use mathlib.Core.Logic.{_↔_}
 use mathlib.Core.Bool.{Bool, true, false, not, true≢false}
-use mathlib.Core.List.{List, [], _∷_, _++_}
+use mathlib.Core.List.{List, [], _∷_}
 use Prim.Native.Nat.{ℕ, suc, _<_}
 use lib.Dec.{eqb}
 use borrow.Author.Tests.{eqb-true, eqb-false}
@@ -12,26 +12,23 @@ use Rattle.hall.proofs.Cells.{neighbour-stays, neighbour-leaves}
 use Rattle.hall.proofs.Links.{hall-same}
 use Rattle.route.specs.Routes.{route, hops, levelOf, ofLevel}
 use Rattle.route.specs.Walks.{LinkOf, Each}
-use Rattle.route.proofs.Lists.{walk-second}
 use Rattle.route.proofs.Lowest.{lowest-only}
-use Rattle.route.proofs.Routes.{route-walk}
+use Rattle.route.proofs.Routes.{links-hops}
 use Rattle.route.proofs.Recursion.{route-self, route-joined}
-use Rattle.load.specs.Counts.{has, starts}
+use Rattle.load.specs.Counts.{has, starts, Stands}
+use Rattle.load.proofs.Ports.{links-first}
 use Rattle.load.proofs.Links.{has-append}
 
 -- a list of links has one that passes exactly where one that passes stands in it
 module _ (p : ℕ → ℕ → Bool) where
-  abbrev Stands : List (ℕ × ℕ) → Type 0
-  Stands r = (e : ℕ × ℕ) × (before behind : List (ℕ × ℕ)) × (r ≡ before ++ (e ∷ behind)) × (p (e .0) (e .1) ≡ true)
-
-  some-stands : (r : List (ℕ × ℕ)) → has p r ≡ true → Stands r
+  some-stands : (r : List (ℕ × ℕ)) → has p r ≡ true → Stands p r
   unfolding has
   some-stands [] h = absurd (true≢false (sym h))
   some-stands (e ∷ r) h = either-cases (p (e .0) (e .1)) (has p r) h
       (λ q. (e, [], r, refl, q))
       (λ q. let k = some-stands r q in (k .0, e ∷ k .1, k .2, ap (λ (s : List (ℕ × ℕ)). e ∷ s) (k .3), k .4))
 
-  pub has-means : (r : List (ℕ × ℕ)) → (has p r ≡ true) ↔ Stands r
+  pub has-means : (r : List (ℕ × ℕ)) → (has p r ≡ true) ↔ Stands p r
   unfolding has
   has-means r = (
     some-stands r,
@@ -45,10 +42,10 @@ module _ (n : ℕ) (pos : 0 < n) where
   unfolding starts hops
   first-link p k x y s h = cases (eqb x y)
       (λ q. let e : starts p (hops (route n k x y)) ≡ false = rw (← eqb-true x y q, route-self n k x) in never h e)
-      (λ q. let w = walk-second n (route-walk n k x y s) (eqb-false x y q) in
-      let e : hops (route n k x y) ≡ (x, w .0) ∷ hops (w .0 ∷ w .1) = ap hops (w .2) in
-      let j : Each (λ m. LinkOf n (levelOf n k m) (m .0) (m .1)) ((x, w .0) ∷ hops (w .0 ∷ w .1)) = rw e at (route-joined n k x y s) in
-      (w .0, hops (w .0 ∷ w .1), e, sym (ap (starts p) e) ∙ h, j .0))
+      (λ q. let w = links-first n k x y s (eqb-false x y q) in
+      let e : hops (route n k x y) ≡ (x, w .0) ∷ w .1 = sym (links-hops n k x y s) ∙ w .2 in
+      let j : Each (λ m. LinkOf n (levelOf n k m) (m .0) (m .1)) ((x, w .0) ∷ w .1) = rw e at (route-joined n k x y s) in
+      (w .0, w .1, e, sym (ap (starts p) e) ∙ h, j .0))
 
   -- a link of level suc a joins x to its neighbour of that level
   level-port : (k a x z : ℕ) → a < k → LinkOf n (lowest n k x z) x z → ofLevel n (suc a) x z ≡ true → neighbour n a x ≡ z

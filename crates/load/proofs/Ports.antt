@@ -36,7 +36,7 @@ module _ (n : ℕ) where
   unfolding hops
   links-self l x = links-hops n l x x (same-refl n l x) ∙ ap hops (route-self n l x)
 
-  links-first : (l x y : ℕ) → same n l x y ≡ true → (x ≡ y → ⊥) → (z : ℕ) × (r : List (ℕ × ℕ)) × (links n l x y ≡ (x, z) ∷ r) × (same n l x z ≡ true)
+  pub links-first : (l x y : ℕ) → same n l x y ≡ true → (x ≡ y → ⊥) → (z : ℕ) × (r : List (ℕ × ℕ)) × (links n l x y ≡ (x, z) ∷ r) × (same n l x z ≡ true)
   unfolding hops
   links-first l x y s ne =
       let k = walk-second n (route-walk n l x y s) ne in
