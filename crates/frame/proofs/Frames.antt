@@ -1,20 +1,20 @@
 -- Laws of a frame's refusal: each ask by the values that it goes by, and that a frame is accepted exactly where all of them hold.
-use mathlib.Core.Path.{_≡_, _∙_, ap, sym}
+use mathlib.Core.Path.{_≡_, _∙_, sym}
 use mathlib.Core.Bool.{Bool, true, false}
-use mathlib.Core.List.{List, _++_}
-use Prim.Native.Nat.{ℕ, _+_, _*_, _/_, _%_, _≤_, _<_}
+use mathlib.Core.List.{List}
+use Prim.Native.Nat.{ℕ, _+_, _*_, _≤_, _<_}
 use native.Mathlib.Omega.{arith}
 use lib.Dec.{eqb}
 use lib.ListN.{length, take, drop}
 use borrow.Author.Tests.{eq-eqb, ne-eqb, eqb-true, eqb-false, le-leb, lt-leb, leb-true}
 use Rattle.combine.specs.Tests.{either}
 use Rattle.combine.proofs.Tests.{cases, either-true}
-use Rattle.hall.specs.Refusals.{Ask, inOrder}
+use Rattle.hall.specs.Refusals.{inOrder, short-frame, bad-header, bad-checksum, bad-address}
 use Rattle.frame.specs.Layout.{version, DHL, payloadLength, flags, checksum, front, theVersion, wordsWith, isPF, valueIn, wordAt}
-use Rattle.frame.specs.Asks.{addressesSound, asksHeader, asksWhole, asksFrame, sumIn, wholeAsks, frameRefusal}
+use Rattle.frame.specs.Asks.{addressesSound, asksHeader, asksWhole, asksFrame, sumIn, fieldAsks, wholeAsks, frameRefusal}
 use Rattle.frame.specs.Reading.{headerOf, readFrame, payloadOf}
 use Rattle.hall.proofs.Asks.{Numbered, ask-holds, ask-fails, hold-accepted, accepted-hold, front-refuses, front-holds}
-use Rattle.frame.proofs.Rows.{words-more, words-flagged, version-in, DHL-in, flags-in}
+use Rattle.frame.proofs.Rows.{words-more, words-flagged}
 
 -- the asks of version, DHL and flags, one after the other
 module _ (v w f : ℕ) where
@@ -22,17 +22,17 @@ module _ (v w f : ℕ) where
   unfolding asksHeader
   header-numbered = (omega arith, (omega arith, (omega arith, (omega arith, tt))))
 
-  pub header-version : (v ≡ theVersion → ⊥) → 8 ≡ inOrder (asksHeader v w f)
+  pub header-version : (v ≡ theVersion → ⊥) → bad-header ≡ inOrder (asksHeader v w f)
   unfolding asksHeader
-  header-version d = sym (ask-fails 8 _ _ (ne-eqb v theVersion d))
+  header-version d = sym (ask-fails bad-header _ _ (ne-eqb v theVersion d))
 
   module _ (a : v ≡ theVersion) where
-    pub header-DHL : (w ≡ wordsWith false → ⊥) → (w ≡ wordsWith true → ⊥) → 8 ≡ inOrder (asksHeader v w f)
+    pub header-DHL : (w ≡ wordsWith false → ⊥) → (w ≡ wordsWith true → ⊥) → bad-header ≡ inOrder (asksHeader v w f)
     unfolding asksHeader
     header-DHL d g =
         sym
-        (ask-holds 8 _ _ (eq-eqb v theVersion a)
-        ∙ ask-fails 8 _ _ (rw (ne-eqb w (wordsWith false) d) (ne-eqb w (wordsWith true) g)))
+        (ask-holds bad-header _ _ (eq-eqb v theVersion a)
+        ∙ ask-fails bad-header _ _ (rw (ne-eqb w (wordsWith false) d) (ne-eqb w (wordsWith true) g)))
 
     module _ (l : wordsWith false ≤ w) (m : w ≤ wordsWith true) where
       one-of : either (eqb w (wordsWith false)) (eqb w (wordsWith true)) ≡ true
@@ -42,19 +42,19 @@ module _ (v w f : ℕ) where
           let e : w ≡ wordsWith true = omega (arith, words-more, eqb-false w (wordsWith false) q) in
           rw (q, eq-eqb w (wordsWith true) e))
 
-      pub header-flags : 1 < f → 8 ≡ inOrder (asksHeader v w f)
+      pub header-flags : 1 < f → bad-header ≡ inOrder (asksHeader v w f)
       unfolding asksHeader
-      header-flags h = sym (ask-holds 8 _ _ (eq-eqb v theVersion a) ∙ ask-holds 8 _ _ one-of ∙ ask-fails 8 _ _ (lt-leb f 1 h))
+      header-flags h = sym (ask-holds bad-header _ _ (eq-eqb v theVersion a) ∙ ask-holds bad-header _ _ one-of ∙ ask-fails bad-header _ _ (lt-leb f 1 h))
 
       module _ (h : f ≤ 1) where
-        pub header-disagrees : (w ≡ wordsWith false + f → ⊥) → 8 ≡ inOrder (asksHeader v w f)
+        pub header-disagrees : (w ≡ wordsWith false + f → ⊥) → bad-header ≡ inOrder (asksHeader v w f)
         unfolding asksHeader
         header-disagrees d =
             sym
-            (ask-holds 8 _ _ (eq-eqb v theVersion a)
-            ∙ ask-holds 8 _ _ one-of
-            ∙ ask-holds 8 _ _ (le-leb f 1 h)
-            ∙ ask-fails 8 _ _ (ne-eqb w (wordsWith (isPF f)) (λ e. d (e ∙ words-flagged f h))))
+            (ask-holds bad-header _ _ (eq-eqb v theVersion a)
+            ∙ ask-holds bad-header _ _ one-of
+            ∙ ask-holds bad-header _ _ (le-leb f 1 h)
+            ∙ ask-fails bad-header _ _ (ne-eqb w (wordsWith (isPF f)) (λ e. d (e ∙ words-flagged f h))))
 
         pub header-agrees : w ≡ wordsWith false + f → 0 ≡ inOrder (asksHeader v w f)
         unfolding asksHeader
@@ -70,62 +70,47 @@ module _ (v w f : ℕ) where
 
 -- what is asked once the header is all there, one after the other
 module _ (size : ℕ) (values : ℕ → ℕ) (sum : ℕ) where
-  pub whole-short : size < 4 * values DHL → 7 ≡ inOrder (asksWhole size values sum)
+  pub whole-short : size < 4 * values DHL → short-frame ≡ inOrder (asksWhole size values sum)
   unfolding asksWhole
-  whole-short h = sym (ask-fails 7 _ _ (lt-leb (4 * values DHL) size h))
+  whole-short h = sym (ask-fails short-frame _ _ (lt-leb (4 * values DHL) size h))
 
   module _ (h : 4 * values DHL ≤ size) where
-    pub whole-checksum : (values checksum ≡ sum → ⊥) → 9 ≡ inOrder (asksWhole size values sum)
+    pub whole-checksum : (values checksum ≡ sum → ⊥) → bad-checksum ≡ inOrder (asksWhole size values sum)
     unfolding asksWhole
-    whole-checksum d = sym (ask-holds 7 _ _ (le-leb _ _ h) ∙ ask-fails 9 _ _ (ne-eqb _ _ d))
+    whole-checksum d = sym (ask-holds short-frame _ _ (le-leb _ _ h) ∙ ask-fails bad-checksum _ _ (ne-eqb _ _ d))
 
     module _ (s : values checksum ≡ sum) where
-      pub whole-address : addressesSound values ≡ false → 11 ≡ inOrder (asksWhole size values sum)
+      pub whole-address : addressesSound values ≡ false → bad-address ≡ inOrder (asksWhole size values sum)
       unfolding asksWhole
-      whole-address q = sym (ask-holds 7 _ _ (le-leb _ _ h) ∙ ask-holds 9 _ _ (eq-eqb _ _ s) ∙ ask-fails 11 _ _ q)
+      whole-address q = sym (ask-holds short-frame _ _ (le-leb _ _ h) ∙ ask-holds bad-checksum _ _ (eq-eqb _ _ s) ∙ ask-fails bad-address _ _ q)
 
       module _ (q : addressesSound values ≡ true) where
-        pub whole-payload : size < 4 * values DHL + values payloadLength → 7 ≡ inOrder (asksWhole size values sum)
+        pub whole-payload : size < 4 * values DHL + values payloadLength → short-frame ≡ inOrder (asksWhole size values sum)
         unfolding asksWhole
         whole-payload l =
-            sym (ask-holds 7 _ _ (le-leb _ _ h) ∙ ask-holds 9 _ _ (eq-eqb _ _ s) ∙ ask-holds 11 _ _ q ∙ ask-fails 7 _ _ (lt-leb _ _ l))
+            sym (ask-holds short-frame _ _ (le-leb _ _ h) ∙ ask-holds bad-checksum _ _ (eq-eqb _ _ s) ∙ ask-holds bad-address _ _ q ∙ ask-fails short-frame _ _ (lt-leb _ _ l))
 
         pub whole-sound : 4 * values DHL + values payloadLength ≤ size → 0 ≡ inOrder (asksWhole size values sum)
         unfolding asksWhole
         whole-sound l = sym (hold-accepted (asksWhole size values sum) (le-leb _ _ h, (eq-eqb _ _ s, (q, (le-leb _ _ l, tt)))))
 
--- the asks of a frame, those of version, DHL and flags by its words
+-- the asks of a frame, one part after the other
 module _ (frame : List ℕ) where
-  abbrev values : ℕ → ℕ
-  values = valueIn (wordAt frame)
-
-  abbrev pub headerAsks : List Ask
-  headerAsks =
-      asksHeader (wordAt frame 0 / 268435456 % 16) (wordAt frame 0 / 16777216 % 16) (wordAt frame 2 / 16777216 % 16)
-
-  header-asks : asksHeader (values version) (values DHL) (values flags) ≡ headerAsks
-  header-asks = rw (version-in (wordAt frame), DHL-in (wordAt frame), flags-in (wordAt frame))
-
-  pub frame-short : length frame < 4 * length front → 7 ≡ frameRefusal frame
+  pub frame-short : length frame < 4 * length front → short-frame ≡ frameRefusal frame
   unfolding frameRefusal asksFrame
-  frame-short h = sym (ask-fails 7 _ _ (lt-leb (4 * length front) (length frame) h))
+  frame-short h = sym (ask-fails short-frame _ _ (lt-leb (4 * length front) (length frame) h))
 
   module _ (h : 4 * length front ≤ length frame) where
-    pub frame-header : (inOrder headerAsks ≡ 0 → ⊥) → inOrder headerAsks ≡ frameRefusal frame
+    pub frame-header : (inOrder (fieldAsks frame) ≡ 0 → ⊥) → inOrder (fieldAsks frame) ≡ frameRefusal frame
     unfolding frameRefusal asksFrame
-    frame-header d =
-        sym
-        (ask-holds 7 _ _ (le-leb _ _ h)
-        ∙ ap (λ (l : List Ask). inOrder (l ++ wholeAsks frame)) header-asks
-        ∙ front-refuses headerAsks (wholeAsks frame) d)
+    frame-header d = sym (ask-holds short-frame _ _ (le-leb _ _ h) ∙ front-refuses (fieldAsks frame) (wholeAsks frame) d)
 
-    pub frame-whole : inOrder headerAsks ≡ 0 → inOrder (wholeAsks frame) ≡ frameRefusal frame
+    pub frame-whole : inOrder (fieldAsks frame) ≡ 0 → inOrder (wholeAsks frame) ≡ frameRefusal frame
     unfolding frameRefusal asksFrame
     frame-whole z =
         sym
-        (ask-holds 7 _ _ (le-leb _ _ h)
-        ∙ ap (λ (l : List Ask). inOrder (l ++ wholeAsks frame)) header-asks
-        ∙ front-holds headerAsks (wholeAsks frame) (accepted-hold headerAsks (header-numbered _ _ _) z))
+        (ask-holds short-frame _ _ (le-leb _ _ h)
+        ∙ front-holds (fieldAsks frame) (wholeAsks frame) (accepted-hold (fieldAsks frame) (header-numbered _ _ _) z))
 
 -- what holds of a frame that is accepted: of its size, its values and the checksum worked out
 pub record Sound (size : ℕ) (values : ℕ → ℕ) (sum : ℕ) : Type 0 where

@@ -44,6 +44,10 @@ asksFrame size values sum =
 abbrev pub sumIn : List ℕ → ℕ
 sumIn frame = headerChecksum (wordAt frame) (valueIn (wordAt frame) DHL)
 
+-- what is asked of a frame's version, DHL and flags
+abbrev pub fieldAsks : List ℕ → List Ask
+fieldAsks frame = asksHeader (valueIn (wordAt frame) version) (valueIn (wordAt frame) DHL) (valueIn (wordAt frame) flags)
+
 -- what is asked of a frame once its header is all there
 abbrev pub wholeAsks : List ℕ → List Ask
 wholeAsks frame = asksWhole (length frame) (valueIn (wordAt frame)) (sumIn frame)

@@ -4,7 +4,7 @@ ghost use Prim.Native.Nat.{_*_, _≤_};
 ghost use lib.ListN.{length};
 ghost use Rattle.frame.specs.Layout.{proxy, valueIn, wordAt};
 ghost use Rattle.hall.specs.Refusals.{inOrder};
-ghost use Rattle.frame.specs.Asks.{Told, asksHeader, wholeAsks, frameRefusal};
+ghost use Rattle.frame.specs.Asks.{Told, asksHeader, fieldAsks, wholeAsks, frameRefusal};
 ghost use Rattle.frame.specs.Reading.{headerOf, refusedHeader};
 use crate::Header;
 use crate::addresses::addresses_fit;
@@ -87,6 +87,18 @@ pub(crate) fn whole_refusal(frame: &[u8], count: usize, has_proxy: bool) -> u32
     0
 }
 
+// The refusal that version, DHL and flags of a frame of at least 20 bytes bring, 0 where there is none.
+pub(crate) fn fields_refusal(frame: &[u8]) -> u32
+    requires { ⌜ 20 ≤ length (now frame) ⌝ }
+    ensures { λ r. ⌜ r ≡ inOrder (fieldAsks (now (frame .entry))) ⌝ }
+{
+    let first = word_at(frame, 0);
+    let third = word_at(frame, 2);
+    let words = (first / DHL_AT % BITS_4) as usize;
+    let flags = (third / FLAGS_AT % BITS_4) as usize;
+    header_refusal(first / VERSION_AT % BITS_4, words, flags)
+}
+
 // A frame's refusal, 0 where it is accepted.
 pub(crate) fn frame_refusal(frame: &[u8]) -> u32
     ensures { λ r. ⌜ r ≡ frameRefusal (now (frame .entry)) ⌝ }
@@ -94,14 +106,13 @@ pub(crate) fn frame_refusal(frame: &[u8]) -> u32
     if frame.len() < 4 * WORDS {
         return SHORT_FRAME;
     }
-    let first = word_at(frame, 0);
-    let third = word_at(frame, 2);
-    let words = (first / DHL_AT % BITS_4) as usize;
-    let flags = (third / FLAGS_AT % BITS_4) as usize;
-    let refused = header_refusal(first / VERSION_AT % BITS_4, words, flags);
+    let refused = fields_refusal(frame);
     if refused != 0 {
         return refused;
     }
+    let first = word_at(frame, 0);
+    let third = word_at(frame, 2);
+    let words = (first / DHL_AT % BITS_4) as usize;
     let has_proxy = third / FLAGS_AT % BITS_4 % 2 == PF;
     whole_refusal(frame, words, has_proxy)
 }

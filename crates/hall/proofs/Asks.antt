@@ -24,10 +24,14 @@ abbrev pub Hold : List Ask → Type 0
 Hold [] = Unit
 Hold (ask ∷ asks) = (ask .1 ≡ true) × Hold asks
 
+-- what holds of each ask's number
+abbrev pub EachNumber : (ℕ → Type 0) → List Ask → Type 0
+EachNumber P [] = Unit
+EachNumber P (ask ∷ asks) = P (ask .0) × EachNumber P asks
+
 -- no ask has the number 0, which stands for no refusal
 abbrev pub Numbered : List Ask → Type 0
-Numbered [] = Unit
-Numbered (ask ∷ asks) = (0 < ask .0) × Numbered asks
+Numbered = EachNumber (λ (number : ℕ). 0 < number)
 
 pub hold-accepted : (asks : List Ask) → Hold asks → inOrder asks ≡ 0
 unfolding inOrder
@@ -56,6 +60,23 @@ front-refuses (ask ∷ front) asks h =
 pub front-holds : (front asks : List Ask) → Hold front → inOrder (front ++ asks) ≡ inOrder asks
 front-holds [] asks h = refl
 front-holds (ask ∷ front) asks h = ask-holds (ask .0) (ask .1) (front ++ asks) (h .0) ∙ front-holds front asks (h .1)
+
+-- a refusal is an ask's number or 0, so it has what they have
+pub order-among : (P : ℕ → Type 0) (asks : List Ask) → P 0 → EachNumber P asks → P (inOrder asks)
+unfolding inOrder
+order-among P [] z n = z
+order-among P (ask ∷ asks) z n = cases (ask .1) (λ q. rw q (order-among P asks z (n .1))) (λ q. rw q (n .0))
+
+-- the same tests, with other numbers
+abbrev pub renumbered : (ℕ → ℕ) → List Ask → List Ask
+renumbered f [] = []
+renumbered f (ask ∷ asks) = (f (ask .0), ask .1) ∷ renumbered f asks
+
+-- refuse the same, by the other number
+pub order-renumbered : (f : ℕ → ℕ) (asks : List Ask) → f 0 ≡ 0 → inOrder (renumbered f asks) ≡ f (inOrder asks)
+unfolding inOrder
+order-renumbered f [] z = sym z
+order-renumbered f (ask ∷ asks) z = cases (ask .1) (λ q. rw q (order-renumbered f asks z)) (λ q. rw q)
 
 -- an ask has this number
 abbrev asked : ℕ → List Ask → Bool
