@@ -1,4 +1,5 @@
-/* A driver's first steps: builds a frame, reads it back, asks for its route, and forwards it server by server until it ends.
+/* A driver's first steps: builds a frame, reads it back, asks for its route, forwards it server by server until it ends, and reads a frame
+ * that is refused.
  *
  * The hall is n = 4, k = 1, b = 0, with two ports down: port 1 of server 3 and port 1 of server 16. They are the ends of the link that the
  * route from 0 to 19 crosses, so the frame goes round by a proxy. Valid C11 and C++17. */
@@ -126,6 +127,15 @@ static void print_header(const struct header *says)
            says->destination);
 }
 
+/* Prints why a frame is refused: the number, its text, and the place of the field at fault. */
+static void print_refusal(const struct frame *frame)
+{
+    uint8_t room[TBEXLUM_READ_ROOM];
+    uint32_t refusal = tbexlum_read_header(frame->bytes, frame->length, room, sizeof room);
+    printf("%" PRIu32 ", %s, place %" PRIu32 "\n", refusal, tbexlum_refusal_text(refusal),
+           tbexlum_header_place(frame->bytes, frame->length));
+}
+
 /* Prints the route from x to y. Its last uid is y, and no uid stands in it twice. */
 static void print_route(uint32_t x, uint32_t y)
 {
@@ -223,5 +233,9 @@ int main(void)
     printf("route: ");
     print_route(says.source, says.destination);
     forward(&frame, hall_table);
+
+    frame.bytes[8] |= 2; /* a flag other than PF */
+    printf("refused: ");
+    print_refusal(&frame);
     return EXIT_SUCCESS;
 }

@@ -1,8 +1,9 @@
 /* The driver's calls: frame header, route and forwarding step, on plain numbers and bytes.
  *
- * A call returns TBEXLUM_ANSWERED and writes its answer to the start of the lent room, or returns the number of a refusal and leaves the
- * whole room as lent. Behind the answer the room is unchanged. Any number may be passed. A slice is a pointer and its length in bytes;
- * NULL may be passed with length 0. A room must not overlap the frame or table of the same call.
+ * A call that is lent a room returns TBEXLUM_ANSWERED and writes its answer to the start of the room, or returns the number of a refusal
+ * and leaves the whole room as lent. Behind the answer the room is unchanged. tbexlum_header_place is lent no room: it returns its answer.
+ * Any number may be passed. A slice is a pointer and its length in bytes; NULL may be passed with length 0. A room must not overlap the
+ * frame or table of the same call.
  *
  * Answers of tbexlum_route, tbexlum_read_header and tbexlum_step are words: 32 bits, big-endian, at the offsets below. */
 #ifndef TBEXLUM_H
@@ -18,10 +19,11 @@ extern "C" {
 /* The version of the calls; bin/install writes it to tbexlum.pc. The major number rises where a driver written for the number before may
  * have to be changed, and the minor number where something was only added. */
 
-#define TBEXLUM_VERSION_MAJOR 1u
+#define TBEXLUM_VERSION_MAJOR 2u
 #define TBEXLUM_VERSION_MINOR 0u
 
-/* What a call returns. The numbers 3, 5 and 10 belong to calls that a driver is not offered; these four never return them. */
+/* What a call that is lent a room returns. The numbers 3, 5 and 10 belong to calls that a driver is not offered, and 12 belongs to none;
+ * the calls here never return them. */
 
 /* Not refused: the answer stands in the room. */
 #define TBEXLUM_ANSWERED 0u
@@ -35,12 +37,20 @@ extern "C" {
 #define TBEXLUM_REFUSED_SHORT_ROOM 6u
 /* A frame shorter than 20 bytes, than its DHL says, or than its payload length says. */
 #define TBEXLUM_REFUSED_SHORT_FRAME 7u
-/* Version, DHL, flags or PF outside the rule, or a retry above TBEXLUM_MOST_RETRY. */
-#define TBEXLUM_REFUSED_BAD_HEADER 8u
+/* A retry above TBEXLUM_MOST_RETRY, in a header to be written or a step. A read never returns it. */
+#define TBEXLUM_REFUSED_BAD_RETRY 8u
 /* A checksum that is not the one worked out. */
 #define TBEXLUM_REFUSED_BAD_CHECKSUM 9u
 /* An address of the wrong kind, or a broadcast with a proxy. */
 #define TBEXLUM_REFUSED_BAD_ADDRESS 11u
+/* A frame whose version is not 1; its place is byte 0. */
+#define TBEXLUM_REFUSED_BAD_VERSION 13u
+/* A frame whose DHL is neither 5 nor 6; its place is byte 0. */
+#define TBEXLUM_REFUSED_BAD_DHL 14u
+/* A frame with a flag other than PF; its place is byte 8. */
+#define TBEXLUM_REFUSED_BAD_FLAGS 15u
+/* A frame with PF and a DHL of 5, or without PF and with a DHL of 6; its place is byte 8. */
+#define TBEXLUM_REFUSED_BAD_PF 16u
 
 /* How a step ends: the word at TBEXLUM_STEP_ENDING_AT. */
 
@@ -130,20 +140,25 @@ extern "C" {
 uint32_t tbexlum_route(uint32_t n, uint32_t k, uint32_t b, uint32_t x, uint32_t y, uint8_t *room, size_t room_length);
 
 /* The header of a frame, read and checked.
- * Refusals in order: SHORT_FRAME (20 bytes), BAD_HEADER, SHORT_FRAME (DHL), BAD_CHECKSUM, BAD_ADDRESS, SHORT_FRAME (payload),
- * SHORT_ROOM. */
+ * Refusals in order: SHORT_FRAME (20 bytes), BAD_VERSION, BAD_DHL, BAD_FLAGS, BAD_PF, SHORT_FRAME (DHL), BAD_CHECKSUM, BAD_ADDRESS,
+ * SHORT_FRAME (payload), SHORT_ROOM. */
 uint32_t tbexlum_read_header(const uint8_t *frame, size_t frame_length, uint8_t *room, size_t room_length);
+
+/* The place that goes with the number that tbexlum_read_header returns for this frame. For BAD_VERSION, BAD_DHL, BAD_FLAGS and BAD_PF it
+ * is the offset in the frame of the byte in which the field at fault begins. For every other number and for an accepted frame it is 0.
+ * There are no refusals. */
+uint32_t tbexlum_header_place(const uint8_t *frame, size_t frame_length);
 
 /* A header written to the start of the room, checksum included: 20 bytes where has_proxy is 0, else 24.
  * Where has_proxy is 0, proxy is not looked at.
- * Refusals in order: BAD_HEADER, BAD_ADDRESS, SHORT_ROOM. */
+ * Refusals in order: BAD_RETRY, BAD_ADDRESS, SHORT_ROOM. */
 uint32_t tbexlum_write_header(uint8_t protocol, uint16_t payload_length, uint32_t identification, uint8_t retry, uint8_t ttl,
                               uint32_t source, uint32_t destination, uint32_t has_proxy, uint32_t proxy,
                               uint8_t *room, size_t room_length);
 
 /* One forwarding step at the server uid, over the table of its own DCell(b): t(b) * (k + 1) port codes, port i of the cell's server j at
  * byte j * (k + 1) + i. Where has_proxy is 0, proxy is not looked at.
- * Refusals in order: BAD_HALL, BAD_LENGTH, BAD_UID (uid, dst, proxy), BAD_HEADER (retry), SHORT_ROOM. */
+ * Refusals in order: BAD_HALL, BAD_LENGTH, BAD_UID (uid, dst, proxy), BAD_RETRY, SHORT_ROOM. */
 uint32_t tbexlum_step(uint32_t n, uint32_t k, uint32_t b, uint32_t uid, uint32_t dst, uint32_t has_proxy, uint32_t proxy,
                       uint8_t retry, uint8_t ttl, const uint8_t *table, size_t table_length, uint8_t *room, size_t room_length);
 
@@ -184,12 +199,20 @@ static inline const char *tbexlum_refusal_text(uint32_t number)
         return "the room is shorter than the answer";
     case TBEXLUM_REFUSED_SHORT_FRAME:
         return "the frame is shorter than 20 bytes, than DHL says, or than the payload length says";
-    case TBEXLUM_REFUSED_BAD_HEADER:
-        return "version, DHL, flags, PF or retry is outside the rule";
+    case TBEXLUM_REFUSED_BAD_RETRY:
+        return "the retry is above 15";
     case TBEXLUM_REFUSED_BAD_CHECKSUM:
         return "the checksum is not the one worked out";
     case TBEXLUM_REFUSED_BAD_ADDRESS:
         return "an address is of the wrong kind, or a broadcast has a proxy";
+    case TBEXLUM_REFUSED_BAD_VERSION:
+        return "the version is not 1";
+    case TBEXLUM_REFUSED_BAD_DHL:
+        return "DHL is neither 5 nor 6";
+    case TBEXLUM_REFUSED_BAD_FLAGS:
+        return "a flag other than PF is set";
+    case TBEXLUM_REFUSED_BAD_PF:
+        return "PF and DHL disagree";
     default:
         return "not a number that these calls return";
     }

@@ -44,6 +44,8 @@ cmp "$library" "$prefix/lib/libtbexlum.a"
 export PKG_CONFIG_PATH="$prefix/lib/pkgconfig"
 version=$(constant TBEXLUM_VERSION_MAJOR).$(constant TBEXLUM_VERSION_MINOR)
 [ "$(pkg-config --modversion tbexlum)" = "$version" ] || fail "tbexlum.pc does not say version $version, as $header does"
+asks=$(grep -o "pkg-config --exists '[^\`]*" "$manual") || fail "$manual does not ask for a version"
+eval "$asks" || fail "$manual asks for another version than $version: $asks"
 # What pkg-config tells, read as a shell reads it: the prefix holds a space.
 eval "installed=($(pkg-config --cflags --libs tbexlum))"
 pass
@@ -127,16 +129,21 @@ while read -r name value; do
 done < <(constants)
 while read -r name; do
     constants | grep -q "^$name " || fail "$manual names $name, which $header has not"
-done < <(grep -o 'TBEXLUM_[A-Z_]*[A-Z]' "$manual" | sort -u)
+done < <(grep -o 'TBEXLUM_[A-Z_]*[A-Z]' "$manual" | grep -vx TBEXLUM_REFUSED_BAD_HEADER | sort -u) # the name that 8 had in version 1
 diff <(grep -o 'tbexlum_[a-z_]*(' "$header" | sort -u) <(grep -o 'tbexlum_[a-z_]*(' "$manual" | sort -u) ||
     fail "$header and $manual have not the same functions"
 while read -r name text; do
     sed 's/×/*/g' "$manual" | grep -F "| \`$name\` | $text |" >/dev/null || fail "$manual has no row with '$text' for $name"
 done < <(sed -n 's/^ *case \(TBEXLUM_[A-Z_]*\):$/\1/; T; N; s/\n *return "\(.*\)";$/ \1/p' "$header")
-grep -qF "version $version" "$manual" || fail "$manual is not about version $version"
+grep -qF "This page is about version $version." "$manual" || fail "$manual is not about version $version"
+grep -qF "#if TBEXLUM_VERSION_MAJOR != ${version%.*}\`" "$manual" || fail "$manual has not the line that asks for version ${version%.*}"
+worked() { sed -n "s/^static const char worked_$1\[\] = \"\(.*\)\";\$/$2/p" tests/driver_test.c; } # NAME SHOWN
 while read -r bytes; do
     grep -qF "$bytes" "$manual" || fail "$manual has not the worked bytes $bytes"
-done < <(sed -n 's/^static const char worked_[a-z_]*\[\] = "\(.*\)";$/\1/p' tests/driver_test.c)
+done < <(worked '[a-z0-9_]*' '\1')
+while read -r number place bytes; do
+    grep -q "^| $number | $place | .* | \`$bytes\` |\$" "$manual" || fail "$manual has no row with $number, place $place and $bytes"
+done < <(worked '\([0-9]*\)_at_\([0-9]*\)' '\1 \2 \3')
 
 # A constant made wrong on purpose, one at a time: the test passes with the right header and with none of these.
 mkdir "$folder/tried"
@@ -151,7 +158,7 @@ passes TBEXLUM_ANSWERED 0 0 || fail "the test does not pass with the right heade
 while read -r name value; do
     wrong=$((value + 1))
     # The numbers that have a text are cases of one switch, so a wrong one must be none of the others.
-    if grep -q "case $name:" "$header"; then wrong=$((value + 16)); fi
+    if grep -q "case $name:" "$header"; then wrong=$((value + 64)); fi
     if passes "$name" "$value" "$wrong"; then fail "the test does not see a wrong $name"; fi
     [ -x "$folder/tried/test" ] || fail "the test is not built with a wrong $name, so it has seen nothing"
 done < <(constants)

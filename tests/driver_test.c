@@ -1,5 +1,5 @@
-/* Shows that the library does what tbexlum.h says: every constant, each refusal and its order, each ending, rooms of every length,
- * nothing read or written but what was lent, and the helpers of the header.
+/* Shows that the library does what tbexlum.h says: every constant, each refusal, its order and its place, each ending, rooms of every
+ * length, nothing read or written but what was lent, and the helpers of the header.
  *
  * What is lent lies between pages that can't be touched, first at the front of its pages and then at their back, over two paints. So a
  * byte read or written outside kills the program, and a byte written beside the answer shows. Valid C11 and C++17.
@@ -20,11 +20,19 @@
 #include <ucontext.h>
 #endif
 
-/* The worked examples of docs/DRIVER.md, as bytes in hex: what is given, and what stands in the room afterwards. */
+/* The worked examples of docs/DRIVER.md, as bytes in hex: what is given, and what stands in the room afterwards. The name of a refused
+ * frame says its number and its place. */
 static const char worked_route[] = "00000005 00000004 00000001 00000000 00000006 00000007 0000000A 0000000B";
 static const char worked_frame[] = "15060000 00000001 500F9AD6 00000000 00000013";
 static const char worked_read[] = "00000014 00000006 00000000 00000001 00000005 0000000F 00000000 00000013 00000000 00000000";
 static const char worked_proxy_frame[] = "16060000 00000001 410EA8D3 00000000 00000013 00000004";
+static const char worked_13_at_0[] = "45060000 00000001 500F6AD6 00000000 00000013";
+static const char worked_14_at_0[] = "17060000 00000001 500F98D6 00000000 00000013 00000000 00000000";
+static const char worked_15_at_8[] = "15060000 00000001 520F98D6 00000000 00000013";
+static const char worked_16_at_8[] = "16060000 00000001 400EA9D3 00000000 00000013 00000004";
+static const char worked_9_at_0[] = "15060000 00000001 500F9AD7 00000000 00000013";
+static const char worked_11_at_0[] = "15060000 00000001 500F1AD6 80000000 00000013";
+static const char worked_7_at_0[] = "15060001 00000001 500F9AD5 00000000 00000013";
 static const char worked_table[] = "01010101 01010102";
 static const char worked_step[] = "00000000 00000004 00000013 00000001 00000004 00000004 0000000E 00000001";
 
@@ -46,6 +54,7 @@ static const char worked_step[] = "00000000 00000004 00000013 00000001 00000004 
 #define STEP_STACK 1536u
 #define ROUTE_STACK 512u
 #define READ_STACK 112u
+#define PLACE_STACK 80u
 #define WRITE_STACK 192u
 /* What the function that makes the call takes more where it is not optimized. */
 #ifdef __OPTIMIZE__
@@ -201,7 +210,8 @@ static int is_kept(const uint8_t *paint, const uint8_t *at, size_t size)
 
 /* ---- Questions: a call with all its arguments but the room ---- */
 
-enum call { ROUTE, READ, WRITE, STEP };
+enum call { ROUTE, READ, PLACE, WRITE, STEP };
+#define CALLS 5u
 
 struct question {
     enum call call;
@@ -283,6 +293,8 @@ static uint32_t ask(const struct question *q, uint8_t *room, size_t length)
         return tbexlum_route(q->n, q->k, q->b, q->from, q->to, room, length);
     case READ:
         return tbexlum_read_header(q->bytes, q->length, room, length);
+    case PLACE:
+        return tbexlum_header_place(q->bytes, q->length); /* it is lent no room */
     case WRITE:
         return tbexlum_write_header(q->protocol, q->payload_length, q->identification, q->retry, q->ttl, q->from, q->to, q->has_proxy,
                                     q->proxy, room, length);
@@ -625,7 +637,7 @@ static void write_retry(void)
         if (retry <= TBEXLUM_MOST_RETRY) {
             DEMAND(is_answered(q));
         } else {
-            DEMAND(refuses(q, TBEXLUM_REFUSED_BAD_HEADER));
+            DEMAND(refuses(q, TBEXLUM_REFUSED_BAD_RETRY));
         }
     }
 }
@@ -656,7 +668,7 @@ static void write_addresses(void)
 static void write_order(void)
 {
     struct question q = with_proxy(write_question(6, 1, 16, 15, HUGE_WORD, HUGE_WORD), HUGE_WORD);
-    DEMAND(ask(&q, NULL, 0) == TBEXLUM_REFUSED_BAD_HEADER);
+    DEMAND(ask(&q, NULL, 0) == TBEXLUM_REFUSED_BAD_RETRY);
     q.retry = 15;
     DEMAND(ask(&q, NULL, 0) == TBEXLUM_REFUSED_BAD_ADDRESS);
     q.from = 0;
@@ -742,6 +754,80 @@ static void read_short(void)
     DEMAND(is_answered(read_question(frame, length)));
 }
 
+/* The numbers of a field at fault, in the order in which a read asks for them, and the place of each. */
+static const uint32_t field_faults[4][2] = {
+    {TBEXLUM_REFUSED_BAD_VERSION, 0},
+    {TBEXLUM_REFUSED_BAD_DHL, 0},
+    {TBEXLUM_REFUSED_BAD_FLAGS, 8},
+    {TBEXLUM_REFUSED_BAD_PF, 8},
+};
+#define FIELD_FAULTS (sizeof field_faults / sizeof field_faults[0])
+
+/* The first of the field faults that a frame of 20 bytes or more has; FIELD_FAULTS where it has none. */
+static size_t field_fault(const uint8_t *frame)
+{
+    uint32_t version = frame[0] / 16u;
+    uint32_t dhl = frame[0] % 16u;
+    uint32_t flags = frame[8] % 16u;
+    if (version != 1) {
+        return 0;
+    }
+    if (dhl != 5 && dhl != 6) {
+        return 1;
+    }
+    if (flags > 1) {
+        return 2;
+    }
+    return (dhl == 6) != (flags == 1) ? 3 : FIELD_FAULTS;
+}
+
+/* The place that goes with a number. */
+static uint32_t place_of(uint32_t number)
+{
+    size_t i;
+    for (i = 0; i < FIELD_FAULTS; i++) {
+        if (number == field_faults[i][0]) {
+            return field_faults[i][1];
+        }
+    }
+    return 0;
+}
+
+/* Whether a frame has this place, and nothing is written. */
+static int has_place(struct question q, uint32_t place)
+{
+    q.call = PLACE;
+    return tells(&q, 0, place, NULL, 0);
+}
+
+static void read_refused(void)
+{
+    static const struct {
+        const char *hex;
+        uint32_t number, place;
+    } refused[] = {
+        {worked_13_at_0, TBEXLUM_REFUSED_BAD_VERSION, 0},
+        {worked_14_at_0, TBEXLUM_REFUSED_BAD_DHL, 0},
+        {worked_15_at_8, TBEXLUM_REFUSED_BAD_FLAGS, 8},
+        {worked_16_at_8, TBEXLUM_REFUSED_BAD_PF, 8},
+        {worked_9_at_0, TBEXLUM_REFUSED_BAD_CHECKSUM, 0},
+        {worked_11_at_0, TBEXLUM_REFUSED_BAD_ADDRESS, 0},
+        {worked_7_at_0, TBEXLUM_REFUSED_SHORT_FRAME, 0},
+    };
+    uint8_t frame[ANY_ROOM];
+    size_t length;
+    size_t i;
+    for (i = 0; i < sizeof refused / sizeof refused[0]; i++) {
+        length = bytes_of(refused[i].hex, frame);
+        DEMAND(refuses(read_question(frame, length), refused[i].number));
+        DEMAND(has_place(read_question(frame, length), refused[i].place));
+    }
+    length = bytes_of(worked_frame, frame);
+    DEMAND(has_place(read_question(frame, length), 0));
+    length = bytes_of(worked_proxy_frame, frame);
+    DEMAND(has_place(read_question(frame, length), 0));
+}
+
 static void read_headers(void)
 {
     uint32_t first;
@@ -749,14 +835,22 @@ static void read_headers(void)
     for (first = 0; first < 256; first++) {
         for (flags = 0; flags < 16; flags++) {
             uint8_t frame[64];
+            struct question q = read_question(frame, sizeof frame);
+            size_t dhl = first % 16;
+            size_t fault;
             memset(frame, 0, sizeof frame);
             frame[0] = (uint8_t)first;
             frame[8] = (uint8_t)(80 + flags);
-            seal(frame, (first & 15) == 6 ? 24 : 20);
+            seal(frame, dhl < 5 ? 20 : 4 * dhl);
+            fault = field_fault(frame);
             if ((first == 0x15 && flags == 0) || (first == 0x16 && flags == 1)) {
-                DEMAND(is_answered(read_question(frame, sizeof frame)));
+                DEMAND(fault == FIELD_FAULTS);
+                DEMAND(is_answered(q));
+                DEMAND(has_place(q, 0));
             } else {
-                DEMAND(refuses_once(read_question(frame, sizeof frame), TBEXLUM_REFUSED_BAD_HEADER));
+                DEMAND(fault < FIELD_FAULTS);
+                DEMAND(refuses_once(q, field_faults[fault % FIELD_FAULTS][0]));
+                DEMAND(has_place(q, field_faults[fault % FIELD_FAULTS][1]));
             }
         }
     }
@@ -828,35 +922,90 @@ static void read_addresses(void)
     }
 }
 
-static void read_order(void)
+/* What can be wrong with a frame, in the order in which a read asks for it, and the number that it brings. */
+enum fault { UNDER_20, VERSION, DHL, FLAGS, PF, UNDER_DHL, CHECKSUM, ADDRESS, UNDER_PAYLOAD, FAULTS };
+static const uint32_t fault_numbers[FAULTS] = {
+    TBEXLUM_REFUSED_SHORT_FRAME,  TBEXLUM_REFUSED_BAD_VERSION, TBEXLUM_REFUSED_BAD_DHL,
+    TBEXLUM_REFUSED_BAD_FLAGS,    TBEXLUM_REFUSED_BAD_PF,      TBEXLUM_REFUSED_SHORT_FRAME,
+    TBEXLUM_REFUSED_BAD_CHECKSUM, TBEXLUM_REFUSED_BAD_ADDRESS, TBEXLUM_REFUSED_SHORT_FRAME,
+};
+
+static uint32_t has(uint32_t set, int fault)
+{
+    return set >> fault & 1u;
+}
+
+/* The first of a set of faults decides. The frame has the faults of the set and no other; where DHL is sound, it is `sound_words`. */
+static void first_decides(uint32_t set, size_t sound_words)
 {
     uint8_t frame[64];
-    size_t length;
-    struct question q;
+    size_t words = has(set, DHL) == 0 ? sound_words : sound_words == 5 ? 15 : 7;
+    uint32_t pf = words == 6; /* PF is set exactly when DHL is 6 */
+    size_t payload = 3;
+    size_t least = 4 * words + payload;
+    size_t most = sizeof frame;
+    uint32_t number = TBEXLUM_ANSWERED;
+    int fault;
     memset(frame, 0, sizeof frame);
-    frame[0] = 0x26;  /* version 2, DHL 6 */
-    frame[3] = 1;     /* a payload of 1 byte */
-    frame[8] = 0x51;  /* retry 5, PF */
-    frame[12] = 0x80; /* a source that is no server */
-    q = read_question(frame, 19);
-    DEMAND(ask(&q, NULL, 0) == TBEXLUM_REFUSED_SHORT_FRAME);
-    q.length = 20;
-    DEMAND(ask(&q, NULL, 0) == TBEXLUM_REFUSED_BAD_HEADER);
-    frame[0] = 0x16;
-    for (length = 20; length < 24; length++) {
-        q.length = length;
-        DEMAND(ask(&q, NULL, 0) == TBEXLUM_REFUSED_SHORT_FRAME);
+    frame[0] = (uint8_t)((has(set, VERSION) != 0 ? 64 : 16) + words);
+    frame[3] = (uint8_t)payload;
+    frame[8] = (uint8_t)(80 + 2 * has(set, FLAGS) + (pf ^ has(set, PF)));
+    frame[12] = (uint8_t)(128 * has(set, ADDRESS));
+    seal(frame, 4 * words);
+    frame[11] = (uint8_t)(frame[11] ^ has(set, CHECKSUM));
+    if (has(set, UNDER_PAYLOAD) != 0) {
+        least = 4 * words;
+        most = 4 * words + payload - 1;
     }
-    q.length = 24;
-    DEMAND(ask(&q, NULL, 0) == TBEXLUM_REFUSED_BAD_CHECKSUM);
-    seal(frame, 24);
-    DEMAND(ask(&q, NULL, 0) == TBEXLUM_REFUSED_BAD_ADDRESS);
-    frame[12] = 0;
-    seal(frame, 24);
-    DEMAND(ask(&q, NULL, 0) == TBEXLUM_REFUSED_SHORT_FRAME);
-    q.length = 25;
-    DEMAND(ask(&q, NULL, 0) == TBEXLUM_REFUSED_SHORT_ROOM);
-    DEMAND(is_answered(q));
+    if (has(set, UNDER_DHL) != 0) { /* no length where DHL is 5 */
+        least = 20;
+        most = 4 * words - 1;
+    }
+    if (has(set, UNDER_20) != 0) {
+        least = 0;
+        most = 19;
+    }
+    for (fault = FAULTS - 1; fault >= 0; fault--) {
+        number = has(set, fault) != 0 ? fault_numbers[fault] : number;
+    }
+    for (; least <= most; least++) {
+        struct question q = read_question(frame, least);
+        DEMAND(has_place(q, place_of(number)));
+        if (number == TBEXLUM_ANSWERED) {
+            DEMAND(is_answered(q));
+            DEMAND(ask(&q, NULL, 0) == TBEXLUM_REFUSED_SHORT_ROOM);
+        } else {
+            DEMAND(refuses_once(q, number));
+            DEMAND(ask(&q, NULL, 0) == number);
+        }
+    }
+}
+
+static void read_order(void)
+{
+    uint32_t set;
+    for (set = 0; set < 1u << FAULTS; set++) {
+        first_decides(set, 5);
+        first_decides(set, 6);
+    }
+}
+
+/* The place of frames of every length, each with one field at fault: those under 20 bytes have place 0. */
+static void place_lengths(void)
+{
+    static const char *const frames[] = {worked_13_at_0, worked_14_at_0, worked_15_at_8, worked_16_at_8};
+    size_t i;
+    size_t length;
+    for (i = 0; i < FIELD_FAULTS; i++) {
+        uint8_t frame[ANY_ROOM];
+        memset(frame, 255, sizeof frame);
+        bytes_of(frames[i], frame);
+        for (length = 0; length <= 30; length++) {
+            DEMAND(has_place(read_question(frame, length), length < 20 ? 0 : field_faults[i][1]));
+        }
+    }
+    DEMAND(has_place(read_question(NULL, 0), 0));
+    DEMAND(has_place(read_question(inputs.bytes + inputs.size, 0), 0));
 }
 
 /* ---- Both ways ---- */
@@ -1074,8 +1223,8 @@ static void step_retry(void)
         if (retry <= TBEXLUM_MOST_RETRY) {
             DEMAND(answers_step(q, TBEXLUM_FORWARDED, 3, packet_of(19, 0, 0, retry, 14), 0));
         } else {
-            DEMAND(refuses(q, TBEXLUM_REFUSED_BAD_HEADER));
-            DEMAND(refuses_once(at_end, TBEXLUM_REFUSED_BAD_HEADER));
+            DEMAND(refuses(q, TBEXLUM_REFUSED_BAD_RETRY));
+            DEMAND(refuses_once(at_end, TBEXLUM_REFUSED_BAD_RETRY));
         }
     }
 }
@@ -1109,7 +1258,7 @@ static void step_order(void)
     q.to = 19;
     DEMAND(ask(&q, NULL, 0) == TBEXLUM_REFUSED_BAD_UID);
     q.proxy = 19;
-    DEMAND(ask(&q, NULL, 0) == TBEXLUM_REFUSED_BAD_HEADER);
+    DEMAND(ask(&q, NULL, 0) == TBEXLUM_REFUSED_BAD_RETRY);
     q.retry = 15;
     DEMAND(ask(&q, NULL, 0) == TBEXLUM_REFUSED_SHORT_ROOM);
     DEMAND(is_answered(q));
@@ -1166,15 +1315,16 @@ static void step_journeys(void)
 
 /* ---- Any question ---- */
 
-/* The refusals of each call. */
-static const uint32_t refusals[4][5] = {
+/* What each call returns besides 0: its refusals, or the other place. */
+static const uint32_t returned[CALLS][8] = {
     /* ROUTE */ {TBEXLUM_REFUSED_BAD_HALL, TBEXLUM_REFUSED_BAD_UID, TBEXLUM_REFUSED_SHORT_ROOM},
     /* READ */
-    {TBEXLUM_REFUSED_SHORT_FRAME, TBEXLUM_REFUSED_BAD_HEADER, TBEXLUM_REFUSED_BAD_CHECKSUM, TBEXLUM_REFUSED_BAD_ADDRESS,
-     TBEXLUM_REFUSED_SHORT_ROOM},
-    /* WRITE */ {TBEXLUM_REFUSED_BAD_HEADER, TBEXLUM_REFUSED_BAD_ADDRESS, TBEXLUM_REFUSED_SHORT_ROOM},
+    {TBEXLUM_REFUSED_SHORT_FRAME, TBEXLUM_REFUSED_BAD_VERSION, TBEXLUM_REFUSED_BAD_DHL, TBEXLUM_REFUSED_BAD_FLAGS,
+     TBEXLUM_REFUSED_BAD_PF, TBEXLUM_REFUSED_BAD_CHECKSUM, TBEXLUM_REFUSED_BAD_ADDRESS, TBEXLUM_REFUSED_SHORT_ROOM},
+    /* PLACE */ {8},
+    /* WRITE */ {TBEXLUM_REFUSED_BAD_RETRY, TBEXLUM_REFUSED_BAD_ADDRESS, TBEXLUM_REFUSED_SHORT_ROOM},
     /* STEP */
-    {TBEXLUM_REFUSED_BAD_HALL, TBEXLUM_REFUSED_BAD_LENGTH, TBEXLUM_REFUSED_BAD_UID, TBEXLUM_REFUSED_BAD_HEADER,
+    {TBEXLUM_REFUSED_BAD_HALL, TBEXLUM_REFUSED_BAD_LENGTH, TBEXLUM_REFUSED_BAD_UID, TBEXLUM_REFUSED_BAD_RETRY,
      TBEXLUM_REFUSED_SHORT_ROOM},
 };
 
@@ -1182,8 +1332,8 @@ static const uint32_t refusals[4][5] = {
 static int may_return(enum call call, uint32_t number)
 {
     size_t i;
-    for (i = 0; i < 5; i++) {
-        if (number == refusals[call][i]) {
+    for (i = 0; i < 8; i++) {
+        if (number == returned[call][i]) {
             return 1;
         }
     }
@@ -1198,6 +1348,8 @@ static size_t most_written(const struct question *q)
         return TBEXLUM_ROUTE_ROOM;
     case READ:
         return TBEXLUM_READ_ROOM;
+    case PLACE:
+        return 0;
     case WRITE:
         return q->has_proxy != 0 ? TBEXLUM_HEADER_WITH_PROXY_BYTES : TBEXLUM_HEADER_BYTES;
     default:
@@ -1207,6 +1359,30 @@ static size_t most_written(const struct question *q)
 
 /* Frames and tables of random questions. */
 static uint8_t random_bytes[LONGEST_TABLE + BEYOND];
+
+/* Damages a header: its version, its DHL, its flags, one byte, or all. */
+static void damage(uint8_t *frame)
+{
+    size_t i;
+    switch (random_below(5)) {
+    case 0:
+        frame[0] = (uint8_t)(random_below(16) * 16 + frame[0] % 16u);
+        break;
+    case 1:
+        frame[0] = (uint8_t)(frame[0] / 16u * 16 + random_below(16));
+        break;
+    case 2:
+        frame[8] = (uint8_t)(frame[8] / 16u * 16 + random_below(4));
+        break;
+    case 3:
+        frame[random_below(24)] = (uint8_t)random_word();
+        break;
+    default:
+        for (i = 0; i < 24; i++) {
+            frame[i] = (uint8_t)random_word();
+        }
+    }
+}
 
 /* A question that is sound about as often as not. */
 static struct question random_question(enum call call)
@@ -1236,11 +1412,11 @@ static struct question random_question(enum call call)
             random_bytes[i] = random_below(4) == 0 ? (uint8_t)random_word() : (uint8_t)TBEXLUM_PORT_UP;
         }
     }
-    if (call == READ) {
+    if (call == READ || call == PLACE) {
         q.bytes = random_bytes;
         q.length = header_of(&q, random_bytes) + q.payload_length + random_below(BEYOND);
         if (!is_sound) {
-            random_bytes[random_below(24)] = (uint8_t)random_word();
+            damage(random_bytes);
             q.length = random_below(64);
         }
     }
@@ -1249,11 +1425,11 @@ static struct question random_question(enum call call)
 
 static void any_question(void)
 {
-    static const enum call calls[] = {ROUTE, READ, WRITE, STEP};
-    uint32_t answered[4] = {0, 0, 0, 0};
+    static const enum call calls[CALLS] = {ROUTE, READ, PLACE, WRITE, STEP};
+    uint32_t answered[CALLS] = {0, 0, 0, 0, 0};
     uint32_t i;
     for (i = 0; i < RANDOM_QUESTIONS; i++) {
-        struct question asked = random_question(calls[i % 4]);
+        struct question asked = random_question(calls[i % CALLS]);
         int back = (int)random_below(2);
         struct question q = lent(&asked, back);
         const uint8_t *paint = paints[random_below(2)];
@@ -1266,10 +1442,35 @@ static void any_question(void)
         DEMAND(may_return(q.call, number));
         DEMAND(is_kept(paint, room, number != TBEXLUM_ANSWERED ? 0 : most < length ? most : length));
         DEMAND(q.length == 0 || memcmp(q.bytes, asked.bytes, q.length) == 0);
-        answered[i % 4] += number == TBEXLUM_ANSWERED;
+        answered[i % CALLS] += number == TBEXLUM_ANSWERED;
     }
-    for (i = 0; i < 4; i++) {
+    for (i = 0; i < CALLS; i++) {
         DEMAND(answered[i] > RANDOM_QUESTIONS / 80); /* the questions are worth asking */
+    }
+}
+
+/* A read and its place, over the same random frames. */
+static void any_place(void)
+{
+    uint32_t seen[FIELD_FAULTS + 1] = {0, 0, 0, 0, 0};
+    uint32_t i;
+    for (i = 0; i < RANDOM_QUESTIONS; i++) {
+        struct question asked = random_question(READ);
+        struct question q = lent(&asked, (int)random_below(2));
+        uint8_t room[ANY_ROOM];
+        uint32_t number = ask(&q, room, sizeof room);
+        size_t fault = q.length < 20 ? FIELD_FAULTS : field_fault(q.bytes);
+        size_t told = 0;
+        while (told < FIELD_FAULTS && number != field_faults[told][0]) {
+            told++;
+        }
+        DEMAND(told == fault);
+        q.call = PLACE;
+        DEMAND(ask(&q, NULL, 0) == (told < FIELD_FAULTS ? field_faults[told][1] : 0));
+        seen[told]++;
+    }
+    for (i = 0; i <= FIELD_FAULTS; i++) {
+        DEMAND(seen[i] > RANDOM_QUESTIONS / 500); /* the frames are worth asking about */
     }
 }
 
@@ -1375,10 +1576,15 @@ static void helper_refusals(void)
         NULL,
         "the room is shorter than the answer",
         "the frame is shorter than 20 bytes, than DHL says, or than the payload length says",
-        "version, DHL, flags, PF or retry is outside the rule",
+        "the retry is above 15",
         "the checksum is not the one worked out",
         NULL,
         "an address is of the wrong kind, or a broadcast has a proxy",
+        NULL,
+        "the version is not 1",
+        "DHL is neither 5 nor 6",
+        "a flag other than PF is set",
+        "PF and DHL disagree",
     };
     DEMAND(says_each(tbexlum_refusal_text, texts, sizeof texts / sizeof texts[0], "not a number that these calls return"));
 }
@@ -1482,11 +1688,13 @@ static void stack_fits(void)
 {
     size_t route = stack_of(ROUTE);
     size_t read = stack_of(READ);
+    size_t place = stack_of(PLACE);
     size_t write = stack_of(WRITE);
     size_t step = stack_of(STEP);
-    printf("bytes of stack: route %zu, read_header %zu, write_header %zu, step %zu\n", route, read, write, step);
+    printf("bytes of stack: route %zu, read_header %zu, header_place %zu, write_header %zu, step %zu\n", route, read, place, write, step);
     DEMAND(route <= ROUTE_STACK + CALLER_MORE);
     DEMAND(read <= READ_STACK + CALLER_MORE);
+    DEMAND(place <= PLACE_STACK + CALLER_MORE);
     DEMAND(write <= WRITE_STACK + CALLER_MORE);
     DEMAND(step <= STEP_STACK + CALLER_MORE);
 }
@@ -1517,11 +1725,13 @@ int main(int count, char **words)
     run("read: the known header, in rooms of every length, with and without padding", read_known);
     run("read: each field stands at its offset, and the payload must be there", read_offsets);
     run("read: frames of every length below their header are refused by 7", read_short);
-    run("read: of all first bytes and flags, all but two are refused by 8", read_headers);
+    run("read: the known refused frames, each with its number and its place", read_refused);
+    run("read: of all first bytes and flags, all but two are refused by 13 to 16, each with its place", read_headers);
     run("read: every other checksum is refused by 9, and every turned bit is refused", read_checksums);
     run("read: FFFF where 0000 is due is refused by 9", read_zero_due);
     run("read: addresses of the wrong kind are refused by 11", read_addresses);
-    run("read: refusals come in the order 7, 8, 7, 9, 11, 7, 6", read_order);
+    run("read: of every set of faults, the first in the order 7, 13, 14, 15, 16, 7, 9, 11, 7, 6 decides", read_order);
+    run("place: frames of every length have it from 20 bytes on, and 0 below", place_lengths);
     run("write and read: headers are those of the layout, and read back to their fields", header_both_ways);
 
     run("step: the known step, in rooms of every length", step_known);
@@ -1542,6 +1752,7 @@ int main(int count, char **words)
     run("step: the known journeys, step by step", step_journeys);
     run("step: the port of the lowest level that holds both is up and leads to the next server", step_ports);
 
+    run("read and place: any frame has the place of its number, and 0 where no field is at fault", any_place);
     run("all: any question gets a number of its call, and only the answer's bytes change", any_question);
 #ifndef __SANITIZE_ADDRESS__
     run("all: the stack stays within what docs/DRIVER.md says", stack_fits);

@@ -181,7 +181,9 @@ fn frame_calls_answer_any_bytes_and_fields() {
             }
         }
         let header = frame::read(&bytes);
-        assert!([0, 7, 8, 9, 11].contains(&header.refusal));
+        assert!([0, 7, 9, 11, 13, 14, 15, 16].contains(&header.refusal));
+        let place = if header.refusal > 14 { 8 } else { 0 };
+        assert_eq!(header.place, place);
         let (refusal, payload) = frame::payload(&bytes);
         assert_eq!(refusal, header.refusal);
         assert_eq!(payload.len() as u32, header.payload_length);

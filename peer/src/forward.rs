@@ -147,7 +147,7 @@ impl Packet {
             return refusal::UID;
         }
         if self.retry > MOST_RETRY {
-            return refusal::FIELD;
+            return refusal::RETRY;
         }
         refusal::NONE
     }

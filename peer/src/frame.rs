@@ -26,6 +26,10 @@ const BROADCAST_BITS: u32 = (1 << 28) - 1;
 const LENGTH_BITS: u32 = 0xFFFF;
 /// The bits of the third word that hold the checksum.
 const CHECKSUM_BITS: u32 = 0xFFFF;
+/// The offset of the byte that holds version and DHL.
+const VERSION_AT: usize = 0;
+/// The bits of that byte that hold DHL.
+const WORDS_BITS: u8 = 0xF;
 /// The offset of the byte that holds retry and flags.
 const RETRY_AT: usize = 8;
 /// The bits of that byte that hold the flags.
@@ -33,10 +37,11 @@ const FLAG_BITS: u8 = 0xF;
 /// The bits by which version and retry stand above what shares their byte.
 const NIBBLE: u32 = 4;
 
-/// The fields of a frame's header as read.
+/// The fields of a frame's header as read; the place is that of a refusal which tells one.
 #[derive(Debug, Clone, Copy, PartialEq, Eq)]
 pub struct Header {
     pub refusal: u32,
+    pub place: u32,
     pub protocol: u32,
     pub payload_length: u32,
     pub identification: u32,
@@ -69,6 +74,7 @@ pub fn read(frame: &[u8]) -> Header {
         Ok(header) => header,
         Err(refusal) => Header {
             refusal,
+            place: place_of(refusal),
             protocol: 0,
             payload_length: 0,
             identification: 0,
@@ -97,7 +103,7 @@ pub fn payload(frame: &[u8]) -> (u32, &[u8]) {
 /// Writes a header to the start of the room; answers the refusal.
 pub fn write(fields: Fields, room: &mut [u8]) -> u32 {
     if fields.retry > MOST_RETRY {
-        return refusal::FIELD;
+        return refusal::RETRY;
     }
     if !addresses_fit(
         fields.source,
@@ -148,19 +154,20 @@ pub fn complement(sum: u64) -> u32 {
     u32::from(!(half + u16::from(carry)))
 }
 
-/// The header of a sound frame, else the refusal.
-#[inline]
+/// The header of a sound frame, else the refusal; always inlined, as the header is then never laid down in memory for its caller.
+#[inline(always)]
 fn parse(frame: &[u8]) -> Result<Header, u32> {
     let plain: &[u8; PLAIN_BYTES] = frame.first_chunk().ok_or(refusal::SHORT_FRAME)?;
     let flags = plain[RETRY_AT] & FLAG_BITS;
-    let has_proxy = proxy_told(plain[0], flags).ok_or(refusal::FIELD)?;
+    let has_proxy = proxy_told(plain[VERSION_AT], flags)?;
     let (proxy, header_length) = if has_proxy {
         (sixth_word(frame)?, PROXY_BYTES)
     } else {
         (0, PLAIN_BYTES)
     };
-    let words = [0, 1, 2, 3, 4].map(|i| word(plain, i * WORD));
-    let [first, identification, third, source, destination] = words;
+    let word_at = |place| word(plain, place * WORD);
+    let (first, identification, third) = (word_at(0), word_at(1), word_at(2));
+    let (source, destination) = (word_at(3), word_at(4));
     let given = third & CHECKSUM_BITS;
     let blank = third & !CHECKSUM_BITS;
     if checksum([first, identification, blank, source, destination, proxy]) != given {
@@ -177,6 +184,7 @@ fn parse(frame: &[u8]) -> Result<Header, u32> {
     let [retry_and_flags, ttl, ..] = third.to_be_bytes();
     Ok(Header {
         refusal: refusal::NONE,
+        place: 0,
         protocol: u32::from(protocol),
         payload_length,
         identification,
@@ -190,15 +198,40 @@ fn parse(frame: &[u8]) -> Result<Header, u32> {
     })
 }
 
-/// Whether the version and DHL byte and the flags tell of a proxy; none where they break the rule.
+/// Whether the version and DHL byte and the flags tell of a proxy; the refusal where they break the rule.
 #[inline]
-fn proxy_told(version_and_words: u8, flags: u8) -> Option<bool> {
+fn proxy_told(version_and_words: u8, flags: u8) -> Result<bool, u32> {
     const PLAIN: (u8, u8) = (VERSION << NIBBLE | PLAIN_WORDS, 0);
     const PROXY: (u8, u8) = (VERSION << NIBBLE | PROXY_WORDS, PROXY_FLAG);
     match (version_and_words, flags) {
-        PLAIN => Some(false),
-        PROXY => Some(true),
-        _ => None,
+        PLAIN => Ok(false),
+        PROXY => Ok(true),
+        _ => Err(field_refusal(version_and_words, flags)),
+    }
+}
+
+/// The refusal of a version and DHL byte and flags that break the rule: that of the version, DHL, the flags, else PF.
+#[cold]
+fn field_refusal(version_and_words: u8, flags: u8) -> u32 {
+    let words = version_and_words & WORDS_BITS;
+    if version_and_words >> NIBBLE != VERSION {
+        refusal::VERSION
+    } else if words != PLAIN_WORDS && words != PROXY_WORDS {
+        refusal::DHL
+    } else if flags & !PROXY_FLAG != 0 {
+        refusal::FLAGS
+    } else {
+        refusal::PF
+    }
+}
+
+/// The place of a frame's refusal: the byte that holds the field, or 0 where the refusal tells no place.
+#[inline]
+fn place_of(refusal: u32) -> u32 {
+    match refusal {
+        refusal::VERSION | refusal::DHL => VERSION_AT as u32,
+        refusal::FLAGS | refusal::PF => RETRY_AT as u32,
+        _ => 0,
     }
 }
 
@@ -272,6 +305,7 @@ mod tests {
 
     const NOTHING: Header = Header {
         refusal: 0,
+        place: 0,
         protocol: 0,
         payload_length: 0,
         identification: 0,
@@ -284,14 +318,24 @@ mod tests {
         header_length: 0,
     };
 
+    /// A refusal that tells no place.
     fn refused(refusal: u32) -> Header {
-        Header { refusal, ..NOTHING }
+        refused_at(refusal, 0)
+    }
+
+    fn refused_at(refusal: u32, place: u32) -> Header {
+        Header {
+            refusal,
+            place,
+            ..NOTHING
+        }
     }
 
     /// The header that fields read back to.
     fn expected(fields: &Fields) -> Header {
         Header {
             refusal: 0,
+            place: 0,
             protocol: fields.protocol.into(),
             payload_length: fields.payload_length.into(),
             identification: fields.identification,
@@ -435,19 +479,98 @@ mod tests {
         assert_eq!(read(&[0xFF; 19]), refused(7));
     }
 
+    /// The sample with a first byte and flags, four bytes behind it, and the checksum that is due.
+    fn sample_with(first: u8, flags: u8) -> Vec<u8> {
+        let mut frame = SAMPLE.to_vec();
+        frame.extend([0; 4]);
+        frame[0] = first;
+        frame[8] = 0x50 | flags;
+        sealed(frame, if first % 16 == 6 { 24 } else { 20 })
+    }
+
+    /// First bytes and flags with one fault or with two, and the number and the place of the first.
+    const FIELD_FAULTS: [(u8, u8, u32, u32); 14] = [
+        // The version alone, and with a wrong DHL, a flag too many, and PF against DHL.
+        (0x05, 0, 13, 0),
+        (0x26, 1, 13, 0),
+        (0x27, 0, 13, 0),
+        (0x25, 4, 13, 0),
+        (0x25, 1, 13, 0),
+        // DHL alone, and with a flag too many, and PF set.
+        (0x14, 0, 14, 0),
+        (0x17, 0, 14, 0),
+        (0x17, 8, 14, 0),
+        (0x17, 1, 14, 0),
+        // A flag too many alone, and with PF against DHL.
+        (0x15, 2, 15, 8),
+        (0x16, 2, 15, 8),
+        (0x15, 5, 15, 8),
+        // PF against DHL.
+        (0x15, 1, 16, 8),
+        (0x16, 0, 16, 8),
+    ];
+
     #[test]
-    fn every_first_byte_and_flag_but_two_pairs_get_8() {
-        for first in 0..=255 {
+    fn version_dhl_flags_and_pf_get_their_numbers_and_places_in_that_order() {
+        for (first, flags, number, place) in FIELD_FAULTS {
+            let frame = sample_with(first, flags);
+            assert_eq!(read(&frame), refused_at(number, place), "{first:x} {flags}");
+            assert_eq!(payload(&frame), (number, &[][..]));
+        }
+    }
+
+    #[test]
+    fn every_first_byte_and_flag_gets_the_number_and_the_place_of_its_first_fault() {
+        for first in 0..=255u8 {
             for flags in 0..16 {
-                let mut frame = SAMPLE.to_vec();
-                frame.extend([0; 4]);
-                frame[0] = first;
-                frame[8] = 0x50 | flags;
-                let sound = (first, flags) == (0x15, 0) || (first, flags) == (0x16, 1);
-                let header = read(&sealed(frame, if first == 0x16 { 24 } else { 20 }));
-                assert_eq!(header.refusal, if sound { 0 } else { 8 });
+                let told = match (first / 16, first % 16, flags) {
+                    (0 | 2.., _, _) => (13, 0),
+                    (_, 0..=4 | 7.., _) => (14, 0),
+                    (_, _, 2..) => (15, 8),
+                    (_, 5, 1) | (_, 6, 0) => (16, 8),
+                    _ => (0, 0),
+                };
+                let header = read(&sample_with(first, flags));
+                assert_eq!((header.refusal, header.place), told, "{first:x} {flags}");
             }
         }
+    }
+
+    #[test]
+    fn version_dhl_flags_and_pf_come_after_20_bytes_and_before_all_else() {
+        for (first, flags, number, place) in FIELD_FAULTS {
+            let mut frame = sample_with(first, flags);
+            frame[3] = 9;
+            frame[10] ^= 1;
+            frame[12] = 0x80;
+            for length in 20..=24 {
+                assert_eq!(read(&frame[..length]), refused_at(number, place));
+            }
+            for length in 0..20 {
+                assert_eq!(read(&frame[..length]), refused(7));
+            }
+        }
+    }
+
+    #[test]
+    fn an_accepted_frame_and_the_refusals_7_9_and_11_tell_place_0() {
+        let told = |frame: &[u8]| {
+            let header = read(frame);
+            (header.refusal, header.place)
+        };
+        let with = |place: usize, byte: u8| {
+            let mut frame = SAMPLE.to_vec();
+            frame[place] = byte;
+            frame
+        };
+        assert_eq!(told(&SAMPLE), (0, 0));
+        assert_eq!(told(&sample_with(0x16, 1)), (0, 0));
+        assert_eq!(told(&SAMPLE[..19]), (7, 0));
+        assert_eq!(told(&sample_with(0x16, 1)[..23]), (7, 0));
+        assert_eq!(told(&sealed(with(3, 1), 20)), (7, 0));
+        assert_eq!(told(&with(11, 0xD7)), (9, 0));
+        assert_eq!(told(&sealed(with(12, 0x80), 20)), (11, 0));
+        assert_eq!(told(&sealed(with(16, 0x80), 20)), (11, 0));
     }
 
     #[test]

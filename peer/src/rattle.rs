@@ -201,6 +201,7 @@ mod foreign {
             room: *mut u8,
             length: usize,
         ) -> u32;
+        pub fn tbexlum_header_place(frame: *const u8, bytes: usize) -> u32;
         pub fn tbexlum_write_header(
             protocol: u8,
             payload_length: u16,
@@ -569,6 +570,12 @@ pub fn next_hop(h: Hall, uid: u32, target: u32, table: &[u8], room: &mut [u32]) 
 pub fn read_header(frame: &[u8], room: &mut [u8]) -> u32 {
     let (start, length) = (room.as_mut_ptr(), room.len());
     unsafe { foreign::tbexlum_read_header(frame.as_ptr(), frame.len(), start, length) }
+}
+
+/// The place of the refusal that the reading of a frame gives, else 0.
+#[inline]
+pub fn header_place(frame: &[u8]) -> u32 {
+    unsafe { foreign::tbexlum_header_place(frame.as_ptr(), frame.len()) }
 }
 
 /// The header of these fields; the number that tells of a proxy stands beside them.

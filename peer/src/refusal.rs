@@ -16,8 +16,8 @@ pub const CODE: u32 = 5;
 pub const ROOM: u32 = 6;
 /// A frame is shorter than 20 bytes, DHL or payload says.
 pub const SHORT_FRAME: u32 = 7;
-/// Version, DHL, flags, PF or retry is outside the rule.
-pub const FIELD: u32 = 8;
+/// A retry is above its range, in a header to write, a step or a sheet.
+pub const RETRY: u32 = 8;
 /// The checksum field is not the one worked out.
 pub const CHECKSUM: u32 = 9;
 /// A sheet is cut, too long or has bytes left over.
@@ -26,3 +26,11 @@ pub const SHEET: u32 = 10;
 pub const ADDRESS: u32 = 11;
 /// The scope of a broadcast call is too high; it shares the number of an address of the wrong kind.
 pub const SCOPE: u32 = ADDRESS;
+/// The version of a frame is not the one there is.
+pub const VERSION: u32 = 13;
+/// The DHL of a frame is neither 5 nor 6.
+pub const DHL: u32 = 14;
+/// A flag of a frame other than PF is set.
+pub const FLAGS: u32 = 15;
+/// PF and DHL of a frame disagree.
+pub const PF: u32 = 16;

@@ -282,7 +282,7 @@ impl<'a> Reader<'a> {
             return Err(Fault::at(refusal::UID, self.at + DST_OFFSET));
         }
         if packet.retry > u32::from(MOST_RETRY) {
-            return Err(Fault::at(refusal::FIELD, self.at + RETRY_OFFSET));
+            return Err(Fault::at(refusal::RETRY, self.at + RETRY_OFFSET));
         }
         Ok(())
     }

@@ -75,6 +75,14 @@ pub extern "C" fn tbexlum_read_header(frame: &[u8], room: &mut [u8]) -> u32
     tell(a.refusal, &words, room)
 }
 
+// The place that goes with the number of a frame's header: the first byte of the field that 13 to 16 are about, 0 with every other number.
+#[no_mangle]
+pub extern "C" fn tbexlum_header_place(frame: &[u8]) -> u32
+    ensures { λ r. ⌜ r ≡ readFrame (now (frame .entry)) .place ⌝ }
+{
+    frame::header_place(frame)
+}
+
 // A header written to the start of the room; `has_proxy` is 0 where there is no proxy.
 #[no_mangle]
 pub extern "C" fn tbexlum_write_header(

@@ -7,7 +7,7 @@ use lib.Dec.{leb, ltb}
 use lib.ListN.{length, replicate}
 use Rattle.combine.specs.Tests.{either}
 use Rattle.hall.specs.declared.Hall.{Hall}
-use Rattle.hall.specs.Refusals.{Ask, refusal, answered, bad-uid, bad-header, most-retry}
+use Rattle.hall.specs.Refusals.{Ask, refusal, answered, bad-uid, bad-retry, most-retry}
 use Rattle.hall.specs.Halls.{servers, asksHall, asksUid}
 use Rattle.ports.specs.Answers.{asksTable, asksCell}
 use Rattle.forward.specs.declared.Packet.{Packet}
@@ -26,7 +26,7 @@ abbrev pub asksProxy : Hall → Packet → Ask
 asksProxy h p = (bad-uid, either (not (p .«has_proxy»)) (ltb (p .proxy) (servers h)))
 
 abbrev pub asksRetry : Packet → Ask
-asksRetry p = (bad-header, leb (p .retry) most-retry)
+asksRetry p = (bad-retry, leb (p .retry) most-retry)
 
 -- what a packet at a server is asked, behind the hall and the table
 abbrev pub asksPacket : Hall → ℕ → Packet → List Ask

@@ -28,8 +28,8 @@ use crate::endings::DROP_TTL;
 use crate::endings::FORWARDED;
 use hall::Hall;
 use hall::refusals::BAD_HALL;
-use hall::refusals::BAD_HEADER;
 use hall::refusals::BAD_LENGTH;
+use hall::refusals::BAD_RETRY;
 use hall::refusals::BAD_UID;
 use hall::refusals::MOST_RETRY;
 use local::NONE;
@@ -502,7 +502,7 @@ fn refused_packet(servers: u32, uid: u32, p: Packet) -> u32
         return BAD_UID;
     }
     if MOST_RETRY < p.retry {
-        return BAD_HEADER;
+        return BAD_RETRY;
     }
     0
 }

@@ -9,7 +9,7 @@ use lib.ListN.{length, take, drop}
 use borrow.Author.Tests.{eq-eqb, ne-eqb, eqb-true, eqb-false, le-leb, lt-leb, leb-true}
 use Rattle.combine.specs.Tests.{either}
 use Rattle.combine.proofs.Tests.{cases, either-true}
-use Rattle.hall.specs.Refusals.{inOrder, short-frame, bad-header, bad-checksum, bad-address}
+use Rattle.hall.specs.Refusals.{inOrder, short-frame, bad-checksum, bad-address, bad-version, bad-DHL, bad-flags, bad-PF}
 use Rattle.frame.specs.Layout.{version, DHL, payloadLength, flags, checksum, front, theVersion, wordsWith, isPF, valueIn, wordAt}
 use Rattle.frame.specs.Asks.{addressesSound, asksHeader, asksWhole, asksFrame, sumIn, fieldAsks, wholeAsks, frameRefusal}
 use Rattle.frame.specs.Reading.{headerOf, readFrame, payloadOf}
@@ -22,17 +22,17 @@ module _ (v w f : ℕ) where
   unfolding asksHeader
   header-numbered = (omega arith, (omega arith, (omega arith, (omega arith, tt))))
 
-  pub header-version : (v ≡ theVersion → ⊥) → bad-header ≡ inOrder (asksHeader v w f)
+  pub header-version : (v ≡ theVersion → ⊥) → bad-version ≡ inOrder (asksHeader v w f)
   unfolding asksHeader
-  header-version d = sym (ask-fails bad-header _ _ (ne-eqb v theVersion d))
+  header-version d = sym (ask-fails bad-version _ _ (ne-eqb v theVersion d))
 
   module _ (a : v ≡ theVersion) where
-    pub header-DHL : (w ≡ wordsWith false → ⊥) → (w ≡ wordsWith true → ⊥) → bad-header ≡ inOrder (asksHeader v w f)
+    pub header-DHL : (w ≡ wordsWith false → ⊥) → (w ≡ wordsWith true → ⊥) → bad-DHL ≡ inOrder (asksHeader v w f)
     unfolding asksHeader
     header-DHL d g =
         sym
-        (ask-holds bad-header _ _ (eq-eqb v theVersion a)
-        ∙ ask-fails bad-header _ _ (rw (ne-eqb w (wordsWith false) d) (ne-eqb w (wordsWith true) g)))
+        (ask-holds bad-version _ _ (eq-eqb v theVersion a)
+        ∙ ask-fails bad-DHL _ _ (rw (ne-eqb w (wordsWith false) d) (ne-eqb w (wordsWith true) g)))
 
     module _ (l : wordsWith false ≤ w) (m : w ≤ wordsWith true) where
       one-of : either (eqb w (wordsWith false)) (eqb w (wordsWith true)) ≡ true
@@ -42,19 +42,19 @@ module _ (v w f : ℕ) where
           let e : w ≡ wordsWith true = omega (arith, words-more, eqb-false w (wordsWith false) q) in
           rw (q, eq-eqb w (wordsWith true) e))
 
-      pub header-flags : 1 < f → bad-header ≡ inOrder (asksHeader v w f)
+      pub header-flags : 1 < f → bad-flags ≡ inOrder (asksHeader v w f)
       unfolding asksHeader
-      header-flags h = sym (ask-holds bad-header _ _ (eq-eqb v theVersion a) ∙ ask-holds bad-header _ _ one-of ∙ ask-fails bad-header _ _ (lt-leb f 1 h))
+      header-flags h = sym (ask-holds bad-version _ _ (eq-eqb v theVersion a) ∙ ask-holds bad-DHL _ _ one-of ∙ ask-fails bad-flags _ _ (lt-leb f 1 h))
 
       module _ (h : f ≤ 1) where
-        pub header-disagrees : (w ≡ wordsWith false + f → ⊥) → bad-header ≡ inOrder (asksHeader v w f)
+        pub header-disagrees : (w ≡ wordsWith false + f → ⊥) → bad-PF ≡ inOrder (asksHeader v w f)
         unfolding asksHeader
         header-disagrees d =
             sym
-            (ask-holds bad-header _ _ (eq-eqb v theVersion a)
-            ∙ ask-holds bad-header _ _ one-of
-            ∙ ask-holds bad-header _ _ (le-leb f 1 h)
-            ∙ ask-fails bad-header _ _ (ne-eqb w (wordsWith (isPF f)) (λ e. d (e ∙ words-flagged f h))))
+            (ask-holds bad-version _ _ (eq-eqb v theVersion a)
+            ∙ ask-holds bad-DHL _ _ one-of
+            ∙ ask-holds bad-flags _ _ (le-leb f 1 h)
+            ∙ ask-fails bad-PF _ _ (ne-eqb w (wordsWith (isPF f)) (λ e. d (e ∙ words-flagged f h))))
 
         pub header-agrees : w ≡ wordsWith false + f → 0 ≡ inOrder (asksHeader v w f)
         unfolding asksHeader

@@ -3,3 +3,5 @@ pub mod Sums
 pub mod Rows
 pub mod Words
 pub mod Frames
+pub mod Places
+pub mod Before

@@ -7,7 +7,7 @@ use mathlib.Core.List.{List, [], _∷_, _++_}
 use lib.Dec.{eqb, leb}
 use lib.ListN.{length}
 use Rattle.combine.specs.Tests.{either}
-use Rattle.hall.specs.Refusals.{Ask, inOrder, short-frame, bad-header, bad-checksum, bad-address}
+use Rattle.hall.specs.Refusals.{Ask, inOrder, short-frame, bad-checksum, bad-address, bad-version, bad-DHL, bad-flags, bad-PF}
 use Rattle.frame.specs.Layout.{version, DHL, payloadLength, flags, checksum, source, destination, proxy, front, theVersion, wordsWith, isPF, valueIn, wordAt}
 use Rattle.frame.specs.Checksum.{headerChecksum}
 use Rattle.frame.specs.Addresses.{addressesFit}
@@ -15,10 +15,10 @@ use Rattle.frame.specs.Addresses.{addressesFit}
 -- version, DHL, flags, and PF set exactly when DHL counts a proxy
 unfoldable pub asksHeader : ℕ → ℕ → ℕ → List Ask
 asksHeader versionNumber words flagBits =
-    (bad-header, eqb versionNumber theVersion)
-    ∷ (bad-header, either (eqb words (wordsWith false)) (eqb words (wordsWith true)))
-    ∷ (bad-header, leb flagBits 1)
-    ∷ (bad-header, eqb words (wordsWith (isPF flagBits)))
+    (bad-version, eqb versionNumber theVersion)
+    ∷ (bad-DHL, either (eqb words (wordsWith false)) (eqb words (wordsWith true)))
+    ∷ (bad-flags, leb flagBits 1)
+    ∷ (bad-PF, eqb words (wordsWith (isPF flagBits)))
     ∷ []
 
 -- the rule of the addresses, by a header's values

@@ -3,5 +3,7 @@ pub mod Layout
 pub mod Checksum
 pub mod Addresses
 pub mod Asks
+pub mod Places
 pub mod Reading
+pub mod Before
 pub mod Worked

@@ -10,12 +10,14 @@ use Rattle.hall.specs.Refusals.{answered}
 use Rattle.frame.specs.declared.Header.{Header}
 use Rattle.frame.specs.Layout.{DHL, protocol, payloadLength, identification, retry, flags, TTL, source, destination, proxy, isPF, valueIn, wordAt}
 use Rattle.frame.specs.Asks.{frameRefusal}
+use Rattle.frame.specs.Places.{placeOf}
 
 -- the header that values say
 abbrev pub headerOf : (ℕ → ℕ) → Header
 headerOf values =
     record {
       refusal = 0;
+      place = 0;
       protocol = values protocol;
       «payload_length» = values payloadLength;
       identification = values identification;
@@ -28,10 +30,12 @@ headerOf values =
       «header_length» = 4 * values DHL;
     }
 
-abbrev pub refusedHeader : ℕ → Header
-refusedHeader number =
+-- a refusal: its number and its place, and zero in every other field
+abbrev pub refusedAt : ℕ → ℕ → Header
+refusedAt number place =
     record {
       refusal = number;
+      place = place;
       protocol = 0;
       «payload_length» = 0;
       identification = 0;
@@ -43,6 +47,9 @@ refusedHeader number =
       proxy = 0;
       «header_length» = 0;
     }
+
+abbrev pub refusedHeader : ℕ → Header
+refusedHeader number = refusedAt number (placeOf number)
 
 -- a frame read
 abbrev pub readFrame : List ℕ → Header

@@ -26,6 +26,13 @@ pub const PF: u32 = 1;
 // Where TTL stands in the third word; the checksum is behind it.
 pub const TTL_AT: u32 = 65536;
 
+// The byte in which version begins.
+pub const VERSION_BYTE: u32 = 0;
+// The byte in which DHL begins.
+pub const DHL_BYTE: u32 = 0;
+// The byte in which the flags begin.
+pub const FLAGS_BYTE: u32 = 8;
+
 // The values of a field of 4 bits.
 pub const BITS_4: u32 = 16;
 // The values of a field of 8 bits.

@@ -9,14 +9,19 @@ ghost use Rattle.frame.specs.Reading.{readFrame, payloadOf, nextIdentifi
 use crate::layout::BITS_4;
 use crate::layout::BITS_16;
 use crate::layout::DHL_AT;
+use crate::layout::WORDS;
 use crate::layout::word_at;
+use crate::reading::fields_refusal;
 use crate::reading::frame_refusal;
 use crate::reading::header_of;
+use crate::reading::place_of;
 use crate::reading::refused_header;
 
-// What a frame says. The header's length is in bytes; where has_proxy is false, proxy is 0.
+// What a frame says. The header's length is in bytes; where has_proxy is false, proxy is 0. The place is the first byte of the field that a
+// refusal of 13 to 16 is about, and 0 with every other number.
 pub struct Header {
     pub refusal: u32,
+    pub place: u32,
     pub protocol: u32,
     pub payload_length: u32,
     pub identification: u32,
@@ -38,6 +43,16 @@ pub fn read_frame(frame: &[u8]) -> Header
         return refused_header(refused);
     }
     header_of(frame)
+}
+
+// The place of a frame's refusal, 0 where it tells none or the frame is accepted.
+pub fn header_place(frame: &[u8]) -> u32
+    ensures { λ r. ⌜ r ≡ readFrame (now (frame .entry)) .place ⌝ }
+{
+    if frame.len() < 4 * WORDS {
+        return 0;
+    }
+    place_of(fields_refusal(frame))
 }
 
 // A frame's payload, as a part of the frame; an empty part where it is refused.

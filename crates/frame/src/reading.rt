@@ -5,6 +5,7 @@ ghost use lib.ListN.{length};
 ghost use Rattle.frame.specs.Layout.{proxy, valueIn, wordAt};
 ghost use Rattle.hall.specs.Refusals.{inOrder};
 ghost use Rattle.frame.specs.Asks.{Told, asksHeader, fieldAsks, wholeAsks, frameRefusal};
+ghost use Rattle.frame.specs.Places.{placeOf};
 ghost use Rattle.frame.specs.Reading.{headerOf, refusedHeader};
 use crate::Header;
 use crate::addresses::addresses_fit;
@@ -13,19 +14,25 @@ use crate::layout::BITS_4;
 use crate::layout::BITS_8;
 use crate::layout::BITS_16;
 use crate::layout::DHL_AT;
+use crate::layout::DHL_BYTE;
 use crate::layout::FLAGS_AT;
+use crate::layout::FLAGS_BYTE;
 use crate::layout::PF;
 use crate::layout::PROTOCOL_AT;
 use crate::layout::RETRY_AT;
 use crate::layout::TTL_AT;
 use crate::layout::VERSION;
 use crate::layout::VERSION_AT;
+use crate::layout::VERSION_BYTE;
 use crate::layout::WORDS;
 use crate::layout::WORDS_WITH_PROXY;
 use crate::layout::word_at;
 use hall::refusals::BAD_ADDRESS;
 use hall::refusals::BAD_CHECKSUM;
-use hall::refusals::BAD_HEADER;
+use hall::refusals::BAD_DHL;
+use hall::refusals::BAD_FLAGS;
+use hall::refusals::BAD_PF;
+use hall::refusals::BAD_VERSION;
 use hall::refusals::SHORT_FRAME;
 
 // The refusal that version, DHL and flags bring, 0 where there is none.
@@ -33,19 +40,19 @@ pub(crate) fn header_refusal(version: u32, words: usize, flags: usize) -> u32
     ensures { λ r. ⌜ r ≡ inOrder (asksHeader version words flags) ⌝ }
 {
     if version != VERSION {
-        return BAD_HEADER;
+        return BAD_VERSION;
     }
     if words < WORDS {
-        return BAD_HEADER;
+        return BAD_DHL;
     }
     if WORDS_WITH_PROXY < words {
-        return BAD_HEADER;
+        return BAD_DHL;
     }
     if 1 < flags {
-        return BAD_HEADER;
+        return BAD_FLAGS;
     }
     if words != WORDS + flags {
-        return BAD_HEADER;
+        return BAD_PF;
     }
     0
 }
@@ -117,12 +124,33 @@ pub(crate) fn frame_refusal(frame: &[u8]) -> u32
     whole_refusal(frame, words, has_proxy)
 }
 
-// A refusal with zero in every other field.
+// The place that a refusal tells: the first byte of the field that it is about, 0 where it is about none.
+pub(crate) fn place_of(number: u32) -> u32
+    ensures { λ r. ⌜ r ≡ placeOf number ⌝ }
+{
+    if number == BAD_VERSION {
+        return VERSION_BYTE;
+    }
+    if number == BAD_DHL {
+        return DHL_BYTE;
+    }
+    if number == BAD_FLAGS {
+        return FLAGS_BYTE;
+    }
+    if number == BAD_PF {
+        return FLAGS_BYTE;
+    }
+    0
+}
+
+// A refusal with its place, and zero in every other field.
 pub(crate) fn refused_header(number: u32) -> Header
     ensures { λ r. ⌜ r ≡ refusedHeader number ⌝ }
 {
+    let place = place_of(number);
     Header {
         refusal: number,
+        place,
         protocol: 0,
         payload_length: 0,
         identification: 0,
@@ -152,6 +180,7 @@ pub(crate) fn header_of(frame: &[u8]) -> Header
     let header_length = 4 * (first / DHL_AT % BITS_4);
     Header {
         refusal: 0,
+        place: 0,
         protocol: first / PROTOCOL_AT % BITS_8,
         payload_length: first % BITS_16,
         identification: second,

@@ -34,13 +34,13 @@ short-room = 6
 abbrev pub short-frame : ℕ
 short-frame = 7
 
--- version, DHL, flags, PF or retry outside the rule
-abbrev pub bad-header : ℕ
-bad-header = 8
-
 -- the greatest retry
 abbrev pub most-retry : ℕ
 most-retry = 15
+
+-- a retry above it, in a written frame, a step or a sheet
+abbrev pub bad-retry : ℕ
+bad-retry = 8
 
 -- a checksum that is not the one worked out
 abbrev pub bad-checksum : ℕ
@@ -54,9 +54,25 @@ bad-sheet = 10
 abbrev pub bad-address : ℕ
 bad-address = 11
 
+-- of a frame that is read: a version that there is not
+abbrev pub bad-version : ℕ
+bad-version = 13
+
+-- a DHL that is not the words of a header
+abbrev pub bad-DHL : ℕ
+bad-DHL = 14
+
+-- a flag other than PF
+abbrev pub bad-flags : ℕ
+bad-flags = 15
+
+-- PF and DHL that disagree
+abbrev pub bad-PF : ℕ
+bad-PF = 16
+
 -- the order in which a call gives them
 abbrev pub order : List ℕ
-order = bad-hall ∷ bad-length ∷ bad-uid ∷ bad-range ∷ bad-header ∷ bad-address ∷ bad-code ∷ short-room ∷ []
+order = bad-hall ∷ bad-length ∷ bad-uid ∷ bad-range ∷ bad-retry ∷ bad-address ∷ bad-code ∷ short-room ∷ []
 
 -- what a call asks of its input: a refusal's number, and whether the input is sound there
 abbrev pub Ask : Type 0

@@ -5,7 +5,7 @@ use mathlib.Core.List.{List, [], _∷_, _++_}
 use lib.Dec.{eqb, leb}
 use lib.ListN.{length, getD, drop}
 use Rattle.combine.specs.Tests.{pick}
-use Rattle.hall.specs.Refusals.{refusal, bad-header, bad-address, short-room, most-retry}
+use Rattle.hall.specs.Refusals.{refusal, bad-retry, bad-address, short-room, most-retry}
 use Rattle.rows.specs.Rows.{Row, laid}
 use Rattle.frame.specs.declared.Header.{Header}
 use Rattle.frame.specs.Layout.{checksum, theVersion, rowsOf, wordsWith, bytesOf}
@@ -69,7 +69,7 @@ headerBytes fields = bytesOf (headerWords fields) (countOf fields)
 unfoldable pub writeRefusal : Fields → List ℕ → ℕ
 writeRefusal fields room =
     refusal
-    ((bad-header, leb (fields .retry) most-retry)
+    ((bad-retry, leb (fields .retry) most-retry)
     ∷ (bad-address, addressesFit (fields .source) (fields .destination) (fields .«has_proxy») (fields .proxy))
     ∷ (short-room, leb (4 * countOf fields) (length room))
     ∷ [])
@@ -84,6 +84,7 @@ abbrev pub headerFor : Fields → Header
 headerFor fields =
     record {
       refusal = 0;
+      place = 0;
       protocol = fields .protocol;
       «payload_length» = fields .«payload_length»;
       identification = fields .identification;

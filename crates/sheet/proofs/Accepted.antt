@@ -8,7 +8,7 @@ use lib.Dec.{eqb, leb, ltb}
 use lib.ListN.{length}
 use borrow.Author.Tests.{ltb-true, leb-true, lt-ltb, le-leb}
 use Rattle.hall.specs.Halls.{nFits, kFits, bFits}
-use Rattle.hall.specs.Refusals.{bad-hall, bad-uid, bad-length, bad-header, bad-sheet, most-retry}
+use Rattle.hall.specs.Refusals.{bad-hall, bad-uid, bad-length, bad-retry, bad-sheet, most-retry}
 use Rattle.sheet.specs.declared.Field.{Field}
 use Rattle.sheet.specs.declared.Field.the-variants.{Value, Refused}
 use Rattle.words.specs.Words.{value}
@@ -68,7 +68,7 @@ unfolding packet
 packet-read limit s at v next e =
     let a = field-then 4 (λ x. ltb x limit) bad-uid _ s at v next e in
     let b = field-then 4 (λ x. ltb x limit) bad-uid _ s (at + 4) v next (a .2) in
-    let d = field-then 1 (λ x. leb x most-retry) bad-header _ s (at + 4 + 4) v next (b .2) in
+    let d = field-then 1 (λ x. leb x most-retry) bad-retry _ s (at + 4 + 4) v next (b .2) in
     let f = field-read 1 (λ x. true) 0 s (at + 4 + 4 + 1) v next (d .2) in
     let q : at + 4 + 4 ≡ at + 8 = omega arith in
     record {
@@ -88,7 +88,7 @@ packet-sound limit s at source dst retry there =
     let n : at + 9 + 1 ≡ at + 10 = omega arith in
     then-sound 4 (λ x. ltb x limit) bad-uid _ s at (omega arith) (lt-ltb (value s at 4) limit source)
     ∙ then-sound 4 (λ x. ltb x limit) bad-uid _ s (at + 4) (omega arith) (lt-ltb (value s (at + 4) 4) limit dst)
-    ∙ then-sound 1 (λ x. leb x most-retry) bad-header _ s (at + 4 + 4) (omega arith) (le-leb (value s (at + 4 + 4) 1) most-retry (rw (← q) retry))
+    ∙ then-sound 1 (λ x. leb x most-retry) bad-retry _ s (at + 4 + 4) (omega arith) (le-leb (value s (at + 4 + 4) 1) most-retry (rw (← q) retry))
     ∙ rw p (any-there s 1 (at + 9) (omega arith) ∙ ap (λ (m : ℕ). Value (value s (at + 9) 1) m) n)
 
 -- a format of one width, so many times

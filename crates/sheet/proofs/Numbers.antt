@@ -10,7 +10,7 @@ use borrow.Author.Tests.{ltb-true, ltb-false}
 use Rattle.combine.proofs.Tests.{cases}
 use Rattle.hall.specs.declared.Hall.{Hall}
 use Rattle.hall.specs.Halls.{hallOf, nFits, kFits, bFits, servers}
-use Rattle.hall.specs.Refusals.{bad-hall, bad-uid, bad-length, bad-code, bad-header, bad-sheet, bad-address, most-retry}
+use Rattle.hall.specs.Refusals.{bad-hall, bad-uid, bad-length, bad-code, bad-retry, bad-sheet, bad-address, most-retry}
 use Rattle.ports.specs.Codes.{known, tableLength}
 use Rattle.sheet.specs.declared.Field.{Field}
 use Rattle.sheet.specs.declared.Field.the-variants.{Value, Refused}
@@ -60,13 +60,13 @@ module _ (P : ℕ → Type 0) where
       let x : bad-sheet ≡ number = cc q in rw (← x) c)
 
   -- 1, 2, 4, 5 and 8 are the numbers of a sheet's fields
-  module _ (of-hall : P bad-hall) (of-uid : P bad-uid) (of-length : P bad-length) (of-code : P bad-code) (of-header : P bad-header) where
+  module _ (of-hall : P bad-hall) (of-uid : P bad-uid) (of-length : P bad-length) (of-code : P bad-code) (of-retry : P bad-retry) where
     numbers-packet : (limit : ℕ) → Numbers P (packet limit)
     unfolding packet
     numbers-packet limit =
         numbers-then (numbers-field 4 (λ v. ltb v limit) bad-uid of-uid) (λ source.
         numbers-then (numbers-field 4 (λ v. ltb v limit) bad-uid of-uid) (λ dst.
-        numbers-then (numbers-field 1 (λ v. leb v most-retry) bad-header of-header) (λ v. numbers-any 1)))
+        numbers-then (numbers-field 1 (λ v. leb v most-retry) bad-retry of-retry) (λ v. numbers-any 1)))
 
     numbers-tables : (h : Hall) → Numbers P (tablesOf h)
     unfolding tablesOf

@@ -5,7 +5,7 @@ use Prim.Native.Nat.{ℕ, zero, suc}
 use lib.Dec.{eqb, leb, ltb}
 use Rattle.hall.specs.declared.Hall.{Hall}
 use Rattle.hall.specs.Halls.{hallOf, nFits, kFits, bFits, servers}
-use Rattle.hall.specs.Refusals.{bad-hall, bad-uid, bad-length, bad-code, bad-header, most-retry}
+use Rattle.hall.specs.Refusals.{bad-hall, bad-uid, bad-length, bad-code, bad-retry, most-retry}
 use Rattle.ports.specs.Codes.{known, tableLength}
 use Rattle.sheet.specs.Formats.{Format, done, field, and-then}
 
@@ -38,7 +38,7 @@ uid limit = field 4 (λ v. ltb v limit) bad-uid done
 
 -- 0 to the greatest
 abbrev pub retry : Format
-retry = field 1 (λ v. leb v most-retry) bad-header done
+retry = field 1 (λ v. leb v most-retry) bad-retry done
 
 -- a format so many times
 unfoldable pub times : ℕ → Format → Format

@@ -13,7 +13,7 @@ use Rattle.combine.specs.Tests.{pick}
 use Rattle.combine.proofs.Tests.{cases}
 use Rattle.hall.specs.declared.Hall.{Hall}
 use Rattle.hall.specs.Halls.{nFits, kFits, bFits, servers}
-use Rattle.hall.specs.Refusals.{bad-hall, bad-uid, bad-length, bad-code, bad-header, most-retry}
+use Rattle.hall.specs.Refusals.{bad-hall, bad-uid, bad-length, bad-code, bad-retry, most-retry}
 use Rattle.ports.specs.Codes.{known, firstUnknown, tableLength}
 use Rattle.sheet.specs.declared.Field.{Field}
 use Rattle.sheet.specs.declared.Field.the-variants.{Value, Refused}
@@ -195,7 +195,7 @@ sheet-stands h codes list bytes held short =
 -- what the writer's checks are, one by one, in the fields' order
 pub judged-packet : (limit : ℕ) (p : SheetPacket) (at : ℕ) → judged (filledPacket limit p) at
     ≡ pick (ltb (p .source) limit) (pick (ltb (p .dst) limit) (pick (leb (p .retry) most-retry) (Value (p .ttl) (at + 4 + 4 + 1 + 1))
-    (Refused bad-header (at + 4 + 4))) (Refused bad-uid (at + 4))) (Refused bad-uid at)
+    (Refused bad-retry (at + 4 + 4))) (Refused bad-uid (at + 4))) (Refused bad-uid at)
 unfolding judged filledPacket packet and-then
 judged-packet limit p at = refl
 
@@ -207,10 +207,10 @@ module _ (limit source dst retry ttl at : ℕ) where
   pub dst-wrong : source < limit → limit ≤ dst → Refused bad-uid (at + 4) ≡ judged (filledPacket limit (fieldsOf source dst retry ttl)) at
   dst-wrong a b = rw (judged-packet limit (fieldsOf source dst retry ttl) at, lt-ltb source limit a, le-ltb dst limit b)
 
-  pub retry-wrong : source < limit → dst < limit → most-retry < retry → Refused bad-header (at + 8) ≡ judged (filledPacket limit (fieldsOf source dst retry ttl)) at
+  pub retry-wrong : source < limit → dst < limit → most-retry < retry → Refused bad-retry (at + 8) ≡ judged (filledPacket limit (fieldsOf source dst retry ttl)) at
   retry-wrong a b d =
       let e : at + 8 ≡ at + 4 + 4 = omega arith in
-      rw (judged-packet limit (fieldsOf source dst retry ttl) at, lt-ltb source limit a, lt-ltb dst limit b, lt-leb retry most-retry d) (ap (λ (n : ℕ). Refused bad-header n) e)
+      rw (judged-packet limit (fieldsOf source dst retry ttl) at, lt-ltb source limit a, lt-ltb dst limit b, lt-leb retry most-retry d) (ap (λ (n : ℕ). Refused bad-retry n) e)
 
   pub all-right : source < limit → dst < limit → retry ≤ most-retry → Value ttl (at + 10) ≡ judged (filledPacket limit (fieldsOf source dst retry ttl)) at
   all-right a b d =

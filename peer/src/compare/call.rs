@@ -61,6 +61,8 @@ pub trait Value {
 
     /// The name of the call in the tables.
     const NAME: &'static str;
+    /// What a comparison has to meet, on inputs that both sides agree on.
+    const EVENTS: &'static [Event] = &[];
     /// The random inputs of a short comparison, those of `edges` apart.
     const INPUTS: u32 = 200_000;
     /// The inputs of each case; fewer for a slow call.
@@ -74,6 +76,8 @@ pub trait Value {
     fn long_edges() -> impl Iterator<Item = Self::Input> {
         iter::empty()
     }
+    /// Counts what an input did that both sides agree on.
+    fn count(_input: &Self::Input, _met: &mut Met) {}
     /// What is measured, a line of the benchmark each; nothing where another call's lines tell as much.
     fn cases() -> Vec<Case<Self::Input>> {
         Vec::new()
@@ -90,6 +94,7 @@ impl<V: Value> Call for V {
 
     const NAME: &'static str = V::NAME;
     const NUMBERS: &'static [u32] = &[NONE];
+    const EVENTS: &'static [Event] = V::EVENTS;
     const INPUTS: u32 = V::INPUTS;
     const MEASURED: usize = V::MEASURED;
 
@@ -103,6 +108,10 @@ impl<V: Value> Call for V {
 
     fn long_edges() -> impl Iterator<Item = V::Input> {
         V::long_edges()
+    }
+
+    fn count(input: &V::Input, _: u32, _: &Room<V::Told>, met: &mut Met) {
+        V::count(input, met);
     }
 
     fn rooms(_: &V::Input, _: &mut Random) -> Room<V::Told> {

@@ -9,8 +9,10 @@ use peer::forward::{
 };
 use peer::hall::Hall;
 use peer::ports::part;
+use peer::refusal::{ADDRESS, CHECKSUM, DHL, FLAGS, NONE, PF, SHORT_FRAME, VERSION};
 use peer::route::first_link;
 
+use super::faults::{Fault, Faults, FRAME_FAULTS, PAIRS};
 use super::packets::Far;
 
 /// The most links of a journey.
@@ -35,6 +37,10 @@ pub enum Event {
     Short { number: u32, short: [bool; 2] },
     /// The call returned a number, and its room had so many bytes more than what was to be written, or fewer.
     Spare { number: u32, bytes: isize },
+    /// The reading of a frame gives a number and a place.
+    Told { number: u32, place: u32 },
+    /// A frame, with the room that is lent for it, had these two faults and no other.
+    Faults([Fault; 2]),
 }
 
 /// What steps and journeys have to meet: first that a step forwards, then what both share, last the longest journeys.
@@ -65,6 +71,28 @@ pub const STEP: &[Event] = ALL.split_at(ALL.len() - 2).0;
 /// What every comparison of journeys has to meet.
 pub const JOURNEY: &[Event] = ALL.split_at(1).1;
 
+/// The numbers that the reading of a frame can give, each with its place.
+const TOLD: [Event; 8] = [
+    told(NONE, 0),
+    told(SHORT_FRAME, 0),
+    told(CHECKSUM, 0),
+    told(ADDRESS, 0),
+    told(VERSION, 0),
+    told(DHL, 0),
+    told(FLAGS, 8),
+    told(PF, 8),
+];
+/// What calls that read a frame have to meet: first each number with its place, then each pair of faults, last those with a short room.
+const READING: &[Event] = &reading();
+
+/// What every comparison of reading a frame's header to lent room has to meet.
+pub const READ_HEADER: &[Event] = READING.split_at(TOLD.len()).1;
+/// What every comparison of the place that a frame's refusal is told at has to meet. Two faults of one place give one answer there: it is
+/// the number that tells them apart, in the comparison of reading the header.
+pub const HEADER_PLACE: &[Event] = READING.split_at(READING.len() - FRAME_FAULTS).0;
+/// What every comparison of a frame's payload has to meet: a refused frame has an empty one, for which no room is too short.
+pub const PAYLOAD: &[Event] = HEADER_PLACE.split_at(TOLD.len()).1;
+
 impl Display for Event {
     /// The event in the words of the rules.
     fn fmt(&self, f: &mut Formatter<'_>) -> fmt::Result {
@@ -89,6 +117,8 @@ impl Display for Event {
                 write!(f, "{rooms} short, {number}")
             }
             Event::Spare { number, bytes } => write!(f, "spare bytes {bytes}, {number}"),
+            Event::Told { number, place } => write!(f, "{number} at {place}"),
+            Event::Faults([first, second]) => write!(f, "{first} + {second}"),
         }
     }
 }
@@ -113,6 +143,13 @@ impl Met {
     pub fn texts(&self) -> impl Iterator<Item = String> + '_ {
         let each = |(event, count): (&Event, &u64)| format!("{event}: {count}");
         self.0.iter().map(each)
+    }
+
+    /// Counts two faults that are all the faults there are.
+    pub fn add_faults(&mut self, faults: Faults) {
+        if let Some(pair) = faults.pair() {
+            self.add(Event::Faults(pair));
+        }
     }
 
     /// Counts what a step did with a packet that came to a server.
@@ -148,6 +185,26 @@ impl Met {
             return;
         }
     }
+}
+
+/// A number with its place.
+const fn told(number: u32, place: u32) -> Event {
+    Event::Told { number, place }
+}
+
+/// The numbers with their places, and behind them the pairs of faults.
+const fn reading() -> [Event; TOLD.len() + PAIRS.len()] {
+    let mut events = [TOLD[0]; TOLD.len() + PAIRS.len()];
+    let mut place = 1;
+    while place < events.len() {
+        events[place] = if place < TOLD.len() {
+            TOLD[place]
+        } else {
+            Event::Faults(PAIRS[place - TOLD.len()])
+        };
+        place += 1;
+    }
+    events
 }
 
 /// The words for an ending.
@@ -245,6 +302,32 @@ mod tests {
             "proxy set: 1",
         ];
         assert_eq!(met.texts().collect::<Vec<String>>(), told);
+    }
+
+    #[test]
+    fn each_call_that_reads_a_frame_has_its_pairs_and_its_numbers() {
+        let texts = |events: &[Event]| events.iter().map(Event::to_string).collect::<Vec<_>>();
+        let told = [
+            "0 at 0", "7 at 0", "9 at 0", "11 at 0", "13 at 0", "14 at 0", "15 at 8", "16 at 8",
+        ];
+        let (numbers, pairs) = HEADER_PLACE.split_at(8);
+        assert_eq!(texts(numbers), told);
+        assert_eq!(pairs, PAYLOAD);
+        let (without, with_room) = READ_HEADER.split_at(33);
+        assert_eq!(without, PAYLOAD);
+        assert_eq!(texts(&PAYLOAD[..1]), ["under 20 bytes + version"]);
+        assert_eq!(texts(&with_room[8..]), ["short payload + short room"]);
+    }
+
+    #[test]
+    fn two_faults_alone_are_an_event() {
+        let mut met = Met::default();
+        let one = Faults::NONE.and(Fault::Flags);
+        let two = one.and(Fault::Version);
+        for faults in [Faults::NONE, one, two, two.and(Fault::Room)] {
+            met.add_faults(faults);
+        }
+        assert_eq!(met.texts().collect::<Vec<String>>(), ["version + flags: 1"]);
     }
 
     #[test]

@@ -1,16 +1,26 @@
 //! Frames and header fields to call with: sound ones, those at the edges of their fields, and damaged ones.
 
-use peer::frame::{Fields, PLAIN_BYTES, PROXY_BYTES, PROXY_FLAG, PROXY_WORDS};
+use std::ops::Range;
+
+use peer::frame::{
+    Fields, PLAIN_BYTES, PLAIN_WORDS, PROXY_BYTES, PROXY_FLAG, PROXY_WORDS, VERSION,
+};
 use peer::random::Random;
+
+use super::faults::{
+    due, header_end, Fault, Faults, CHECKSUM_AT, DESTINATION_AT, FAULTS, FRAME_FAULTS, RETRY_AT,
+    SOURCE_AT, WORD,
+};
+use super::inputs::within;
 
 /// The first byte of a header without a proxy: version 1 and five words.
 const PLAIN_FIRST: u8 = 0x15;
 /// The first byte of a header with a proxy: version 1 and six words.
 const PROXY_FIRST: u8 = 0x16;
-/// Where retry and flags stand.
-const RETRY_AT: usize = 8;
-/// Where the checksum stands.
-const CHECKSUM_AT: usize = 10;
+/// The highest DHL, and the highest version.
+const MOST_NIBBLE: u8 = 15;
+/// The bytes of the longest header that a DHL tells of.
+const LONGEST_HEADER: usize = MOST_NIBBLE as usize * WORD;
 /// The most padding behind a payload.
 const MOST_PADDING: u32 = 12;
 /// The highest retry.
@@ -21,6 +31,10 @@ const ANY_KIND: u32 = 12;
 const SMALL_PAYLOAD: u32 = 40;
 /// One frame in so many may have a payload of any length.
 const ANY_PAYLOAD: u32 = 64;
+/// A random choice of faults has fewer than this.
+const CHOSEN: u32 = 4;
+/// So many frames with each choice of faults are tried by every comparison.
+const TRIED: usize = 32;
 
 /// Addresses of every kind, at the edges of each: servers, broadcasts and neither.
 pub const ADDRESSES: [u32; 10] = [
@@ -76,32 +90,10 @@ pub fn header(fields: &Fields) -> Vec<u8> {
 
 /// Puts the checksum that is due into a frame; one too short for it stays as it is.
 pub fn mend(frame: &mut [u8]) {
-    let Some(first) = frame.first() else {
-        return;
-    };
-    let length = if first & 0xF == PROXY_WORDS {
-        PROXY_BYTES
-    } else {
-        PLAIN_BYTES
-    };
-    let length = length.min(frame.len());
-    let sum = due(&frame[..length]);
-    if let Some(field) = frame.get_mut(CHECKSUM_AT..CHECKSUM_AT + 2) {
+    let sum = due(frame);
+    if let Some(field) = frame.get_mut(CHECKSUM_AT..SOURCE_AT) {
         field.copy_from_slice(&sum.to_be_bytes());
     }
-}
-
-/// The checksum of a header, its 16-bit words added one by one, with every carry brought around.
-fn due(header: &[u8]) -> u16 {
-    let mut sum = 0u16;
-    for (place, pair) in header.chunks_exact(2).enumerate() {
-        if 2 * place == CHECKSUM_AT {
-            continue;
-        }
-        let (added, carry) = sum.overflowing_add(u16::from_be_bytes([pair[0], pair[1]]));
-        sum = added + u16::from(carry);
-    }
-    !sum
 }
 
 /// Fields at their edges or anywhere; mostly sound for a frame, as retry is never above its range here.
@@ -146,7 +138,7 @@ pub fn frame(random: &mut Random, fields: &Fields) -> Vec<u8> {
 pub fn any_frame(random: &mut Random) -> Vec<u8> {
     let fields = any_fields(random);
     let mut frame = frame(random, &fields);
-    match random.below(10) {
+    match random.below(12) {
         0 => flip(random, &mut frame),
         1 => {
             flip(random, &mut frame);
@@ -157,6 +149,10 @@ pub fn any_frame(random: &mut Random) -> Vec<u8> {
         4 => turn_checksum(&mut frame),
         5 => other_kind(random, &mut frame),
         6 => frame.fill_with(|| random.byte()),
+        7 | 8 => {
+            let chosen = any_choice(random);
+            frame = faulty(random, chosen);
+        }
         _ => {}
     }
     frame
@@ -168,6 +164,7 @@ pub fn edge_frames() -> impl Iterator<Item = Vec<u8>> {
         .chain(kinds())
         .chain(flips())
         .chain(checksums())
+        .chain(choices())
         .chain(edge_fields().map(|fields| header(&fields)))
 }
 
@@ -238,19 +235,27 @@ fn cuts() -> impl Iterator<Item = Vec<u8>> {
     })
 }
 
-/// Every first byte with all flags, in frames of 20 to 24 bytes, each with the checksum that is due.
+/// Every first byte with all flags, in frames of 20 to 24 bytes and in one that holds every header, each with the checksum that is due.
 fn kinds() -> impl Iterator<Item = Vec<u8>> {
     let pairs = (0..=u8::MAX).flat_map(|first| (0..16).map(move |flags| (first, flags)));
     pairs.flat_map(|(first, flags)| {
-        (PLAIN_BYTES..=PROXY_BYTES).map(move |length| {
+        let lengths = (PLAIN_BYTES..=PROXY_BYTES).chain([LONGEST_HEADER]);
+        lengths.map(move |length| {
             let mut frame = header(&PROXIED);
-            frame.truncate(length);
+            frame.resize(length, 0);
             frame[0] = first;
             frame[RETRY_AT] = 0x50 | flags;
             mend(&mut frame);
             frame
         })
     })
+}
+
+/// Frames with every choice of faults, of one seed, for every comparison.
+fn choices() -> impl Iterator<Item = Vec<u8>> {
+    let mut random = Random::new(4);
+    let choices = Faults::choices().flat_map(|chosen| [chosen; TRIED]);
+    choices.map(move |chosen| faulty(&mut random, chosen))
 }
 
 /// Two headers with every one of their bits turned, the checksum mended and not.
@@ -271,7 +276,7 @@ fn flips() -> impl Iterator<Item = Vec<u8>> {
 /// One header with every checksum, and one to which 0000 is due with FFFF too.
 fn checksums() -> impl Iterator<Item = Vec<u8>> {
     let with = |mut frame: Vec<u8>, sum: u16| {
-        frame[CHECKSUM_AT..CHECKSUM_AT + 2].copy_from_slice(&sum.to_be_bytes());
+        frame[CHECKSUM_AT..SOURCE_AT].copy_from_slice(&sum.to_be_bytes());
         frame
     };
     let all = (0..=u16::MAX).map(move |sum| with(header(&PLAIN), sum));
@@ -323,7 +328,7 @@ fn pad(random: &mut Random, frame: &mut Vec<u8>) {
 /// Makes 0000 the checksum that is due, and FFFF the one that is there.
 fn turn_checksum(frame: &mut Vec<u8>) {
     let mut turned = zero_due(std::mem::take(frame));
-    turned[CHECKSUM_AT..CHECKSUM_AT + 2].fill(0xFF);
+    turned[CHECKSUM_AT..SOURCE_AT].fill(0xFF);
     *frame = turned;
 }
 
@@ -335,6 +340,134 @@ fn other_kind(random: &mut Random, frame: &mut [u8]) {
         _ => frame[RETRY_AT] = random.byte(),
     }
     mend(frame);
+}
+
+/// No fault or a few that a frame can have together.
+fn any_choice(random: &mut Random) -> Faults {
+    let mut chosen = Faults::NONE;
+    for _ in 0..random.below(CHOSEN) {
+        let fault = FAULTS[random.below(FRAME_FAULTS as u32) as usize];
+        if chosen.can_meet(fault) {
+            chosen = chosen.and(fault);
+        }
+    }
+    chosen
+}
+
+/// A frame that has the chosen faults and no other; they are some that it can have together.
+fn faulty(random: &mut Random, chosen: Faults) -> Vec<u8> {
+    let payload = within(random, SMALL_PAYLOAD) + u32::from(chosen.has(Fault::Payload));
+    let mut frame = header(&sound_fields(random, true, payload as u16));
+    let words = chosen_words(random, chosen);
+    frame[0] = chosen_version(random, chosen) << 4 | words;
+    frame[RETRY_AT] = frame[RETRY_AT] & 0xF0 | chosen_flags(random, chosen, words);
+    if chosen.has(Fault::Address) {
+        spoil_address(random, chosen, &mut frame);
+    }
+    let behind = LONGEST_HEADER as u32 + payload + MOST_PADDING;
+    extend(random, &mut frame, behind);
+    let end = chosen_end(random, chosen, header_end(&frame), payload as usize);
+    frame.truncate(end);
+    mend(&mut frame);
+    if chosen.has(Fault::Checksum) {
+        spoil_checksum(random, &mut frame);
+    }
+    frame
+}
+
+/// The version, or another number where it is to be wrong.
+fn chosen_version(random: &mut Random, chosen: Faults) -> u8 {
+    if chosen.has(Fault::Version) {
+        nibble_but(random, VERSION..VERSION + 1)
+    } else {
+        VERSION
+    }
+}
+
+/// A DHL, right or wrong, and above 5 where the frame is to end before its header does.
+fn chosen_words(random: &mut Random, chosen: Faults) -> u8 {
+    match (chosen.has(Fault::Dhl), chosen.has(Fault::UnderDhl)) {
+        (false, false) => PLAIN_WORDS + random.below(2) as u8,
+        (false, true) => PROXY_WORDS,
+        (true, false) => nibble_but(random, PLAIN_WORDS..PROXY_WORDS + 1),
+        (true, true) => nibble_but(random, 0..PROXY_WORDS + 1),
+    }
+}
+
+/// The flags beside a DHL: PF, which agrees with it or not, and others where such are to be set.
+fn chosen_flags(random: &mut Random, chosen: Faults, words: u8) -> u8 {
+    let set = (words == PROXY_WORDS) != chosen.has(Fault::Pf);
+    let pf = if set { PROXY_FLAG } else { 0 };
+    if chosen.has(Fault::Flags) {
+        nibble_but(random, 0..PROXY_FLAG + 1) & !PROXY_FLAG | pf
+    } else {
+        pf
+    }
+}
+
+/// Any number of four bits but those of a range.
+fn nibble_but(random: &mut Random, range: Range<u8>) -> u8 {
+    let others = MOST_NIBBLE + 1 - range.len() as u8;
+    let number = within(random, u32::from(others)) as u8;
+    if number < range.start {
+        number
+    } else {
+        number + range.len() as u8
+    }
+}
+
+/// Puts an address of a wrong kind where the frame will still show it.
+fn spoil_address(random: &mut Random, chosen: Faults, frame: &mut [u8]) {
+    let proxied = header_end(frame) == PROXY_BYTES;
+    let shown = if chosen.has(Fault::Under20) {
+        1
+    } else if proxied && !chosen.has(Fault::UnderDhl) {
+        3
+    } else {
+        2
+    };
+    let at = SOURCE_AT + random.below(shown) as usize * WORD;
+    let broadcast = 0x8FFF_FFFF | random.word();
+    let wrong = if random.once_in(2) || at == DESTINATION_AT && !proxied {
+        broadcast ^ 1 << random.below(28)
+    } else {
+        broadcast
+    };
+    frame[at..at + WORD].copy_from_slice(&wrong.to_be_bytes());
+}
+
+/// Puts another checksum in the place of the one that is there.
+fn spoil_checksum(random: &mut Random, frame: &mut [u8]) {
+    let more = 1 + within(random, u32::from(u16::MAX)) as u16;
+    let field = [frame[CHECKSUM_AT], frame[CHECKSUM_AT + 1]];
+    let wrong = u16::from_be_bytes(field).wrapping_add(more);
+    frame[CHECKSUM_AT..SOURCE_AT].copy_from_slice(&wrong.to_be_bytes());
+}
+
+/// Where the frame ends, by the end of its header and the length of its payload.
+fn chosen_end(random: &mut Random, chosen: Faults, header: usize, payload: usize) -> usize {
+    let ends = if chosen.has(Fault::Under20) {
+        fewest_bytes(chosen)..PLAIN_BYTES
+    } else if chosen.has(Fault::UnderDhl) {
+        PLAIN_BYTES..header
+    } else if chosen.has(Fault::Payload) {
+        header..header + payload
+    } else {
+        header + payload..header + payload + MOST_PADDING as usize
+    };
+    ends.start + within(random, ends.len() as u32) as usize
+}
+
+/// The fewest bytes that still show the chosen faults.
+fn fewest_bytes(chosen: Faults) -> usize {
+    let bytes = chosen.each().map(|fault| match fault {
+        Fault::Version | Fault::Dhl => 1,
+        Fault::Flags | Fault::Pf => RETRY_AT + 1,
+        Fault::Checksum => SOURCE_AT,
+        Fault::Address => DESTINATION_AT,
+        _ => 0,
+    });
+    bytes.max().unwrap_or(0)
 }
 
 /// A byte, often at an edge.
@@ -387,7 +520,9 @@ fn destination(random: &mut Random, has_proxy: bool) -> u32 {
 #[cfg(test)]
 mod tests {
     use super::*;
+    use crate::compare::faults::PAIRS;
     use peer::frame::{read, write};
+    use std::collections::BTreeMap;
 
     #[test]
     fn the_header_of_sound_fields_is_the_one_written() {
@@ -407,11 +542,67 @@ mod tests {
         let edges: Vec<Vec<u8>> = edge_frames().collect();
         let any: Vec<Vec<u8>> = (0..10_000).map(|_| any_frame(&mut random)).collect();
         for frames in [edges, any] {
-            for number in [0, 7, 8, 9, 11] {
+            for number in [0, 7, 9, 11, 13, 14, 15, 16] {
                 let met = |frame: &Vec<u8>| read(frame).refusal == number;
                 assert!(frames.iter().filter(|frame| met(frame)).count() > 30);
             }
         }
+    }
+
+    #[test]
+    fn a_frame_of_chosen_faults_has_these_alone_and_is_refused_by_the_first() {
+        let told = [
+            (7, 0),
+            (13, 0),
+            (14, 0),
+            (15, 8),
+            (16, 8),
+            (7, 0),
+            (9, 0),
+            (11, 0),
+            (7, 0),
+        ];
+        let mut random = Random::new(3);
+        for chosen in Faults::choices() {
+            let first = chosen.each().next();
+            let told = first.map_or((0, 0), |fault| told[fault as usize]);
+            for _ in 0..200 {
+                let frame = faulty(&mut random, chosen);
+                assert_eq!(Faults::of(&frame), chosen, "{frame:?}");
+                let header = read(&frame);
+                assert_eq!((header.refusal, header.place), told, "{frame:?}");
+            }
+        }
+    }
+
+    #[test]
+    fn every_pair_of_faults_is_met_by_the_edges_and_at_random() {
+        let mut random = Random::new(5);
+        let edges: Vec<Vec<u8>> = edge_frames().collect();
+        let any: Vec<Vec<u8>> = (0..100_000).map(|_| any_frame(&mut random)).collect();
+        for frames in [edges, any] {
+            let mut met = BTreeMap::new();
+            for pair in frames.iter().filter_map(|frame| Faults::of(frame).pair()) {
+                *met.entry(pair).or_insert(0) += 1;
+            }
+            for pair in &PAIRS[..33] {
+                let count = met.get(pair).copied().unwrap_or(0);
+                assert!(count >= 30, "{pair:?}: {count}");
+            }
+            assert_eq!(met.len(), 33);
+        }
+    }
+
+    #[test]
+    fn every_first_byte_and_flag_is_among_the_edges_with_no_other_fault() {
+        let mut met = [[false; 16]; 256];
+        for frame in kinds() {
+            let mut each = Faults::of(&frame).each();
+            if each.all(|fault| (Fault::Version..=Fault::Pf).contains(&fault)) {
+                met[usize::from(frame[0])][usize::from(frame[8] & 0xF)] = true;
+            }
+        }
+        assert_eq!(met, [[true; 16]; 256]);
     }
 
     #[test]

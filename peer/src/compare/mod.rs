@@ -7,6 +7,7 @@ mod cases;
 mod chains;
 mod events;
 pub mod failures;
+mod faults;
 mod frames;
 mod inputs;
 pub mod load;
@@ -27,7 +28,7 @@ use calls::{Listed, CALLS};
 use tally::{Effort, Tally};
 
 /// The width of the column that tells what was met.
-const MET_WIDTH: usize = 92;
+const MET_WIDTH: usize = 100;
 
 /// Compares every call and prints what was met; answers whether all is well.
 pub fn run(seed: u64, effort: Effort) -> bool {
@@ -132,17 +133,40 @@ mod tests {
         assert_eq!(faults[1..], numbers);
     }
 
-    #[test]
-    fn an_event_never_met_is_a_fault_and_one_met_is_told() {
-        let listed = CALLS.iter().find(|call| call.name == "step");
-        let step = listed.unwrap();
+    /// A call and the tally of a comparison that met all its numbers and all its events but one.
+    fn all_but(name: &str, place: usize) -> (&'static Listed, Tally) {
+        let listed = CALLS.iter().find(|call| call.name == name);
+        let call = listed.unwrap();
         let mut tally = Tally {
-            met: step.numbers.iter().map(|&number| (number, 1)).collect(),
+            met: call.numbers.iter().map(|&number| (number, 1)).collect(),
             ..Tally::default()
         };
-        for &event in &step.events[1..] {
+        let (before, behind) = call.events.split_at(place);
+        for &event in before.iter().chain(&behind[1..]) {
             tally.events.add(event);
         }
+        (call, tally)
+    }
+
+    #[test]
+    fn a_pair_of_faults_that_was_never_compared_is_a_fault() {
+        for (name, pairs, numbers) in [
+            ("read header", 42, 0),
+            ("payload", 33, 0),
+            ("header place", 33, 8),
+        ] {
+            for place in 0..pairs + numbers {
+                let (call, tally) = all_but(name, place);
+                let fault = format!("{name} never met: {}", call.events[place]);
+                assert_eq!(call.events.len(), pairs + numbers);
+                assert_eq!(faults_of(call, tally), [fault]);
+            }
+        }
+    }
+
+    #[test]
+    fn an_event_never_met_is_a_fault_and_one_met_is_told() {
+        let (step, tally) = all_but("step", 0);
         let told = event_lines(&tally).join("\n");
         assert!(told.contains("drop 4: 1, delivered: 1"));
         assert_eq!(faults_of(step, tally), ["step never met: forwarded"]);

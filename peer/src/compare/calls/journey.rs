@@ -2,7 +2,7 @@
 
 use peer::forward::{self, JOURNEY_ROOM};
 use peer::random::Random;
-use peer::refusal::{FIELD, HALL, LENGTH, NONE, ROOM, UID};
+use peer::refusal::{HALL, LENGTH, NONE, RETRY, ROOM, UID};
 
 use crate::compare::call::Call;
 use crate::compare::cases::{by_b_and_share, Case};
@@ -27,7 +27,7 @@ impl Call for Journey {
     type Rooms = Room<u32>;
 
     const NAME: &'static str = "journey";
-    const NUMBERS: &'static [u32] = &[NONE, HALL, UID, LENGTH, ROOM, FIELD];
+    const NUMBERS: &'static [u32] = &[NONE, HALL, UID, LENGTH, ROOM, RETRY];
     const EVENTS: &'static [Event] = events::JOURNEY;
     const INPUTS: u32 = JOURNEYS;
     const MEASURED: usize = MEASURED;

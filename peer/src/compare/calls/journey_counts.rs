@@ -2,7 +2,7 @@
 
 use peer::forward;
 use peer::random::Random;
-use peer::refusal::{FIELD, HALL, LENGTH, NONE, ROOM, UID};
+use peer::refusal::{HALL, LENGTH, NONE, RETRY, ROOM, UID};
 
 use super::journey::{tried, JOURNEYS, MEASURED};
 use crate::compare::call::Call;
@@ -23,7 +23,7 @@ impl Call for JourneyCounts {
     type Rooms = Room<u32>;
 
     const NAME: &'static str = "counts";
-    const NUMBERS: &'static [u32] = &[NONE, HALL, UID, LENGTH, ROOM, FIELD];
+    const NUMBERS: &'static [u32] = &[NONE, HALL, UID, LENGTH, ROOM, RETRY];
     const EVENTS: &'static [Event] = events::JOURNEY;
     const INPUTS: u32 = JOURNEYS;
     const MEASURED: usize = MEASURED;

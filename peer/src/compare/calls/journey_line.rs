@@ -1,7 +1,7 @@
 //! The line of a packet's journey.
 
 use peer::random::Random;
-use peer::refusal::{CODE, FIELD, HALL, LENGTH, NONE, RANGE, ROOM, SHEET, UID};
+use peer::refusal::{CODE, HALL, LENGTH, NONE, RANGE, RETRY, ROOM, SHEET, UID};
 use peer::{report, sheet};
 
 use super::sheet::SHEETS;
@@ -27,7 +27,7 @@ impl Call for JourneyLine {
     type Rooms = LineRooms;
 
     const NAME: &'static str = "journey line";
-    const NUMBERS: &'static [u32] = &[NONE, HALL, UID, RANGE, LENGTH, CODE, ROOM, FIELD, SHEET];
+    const NUMBERS: &'static [u32] = &[NONE, HALL, UID, RANGE, LENGTH, CODE, ROOM, RETRY, SHEET];
     const EVENTS: &'static [Event] = FITS;
     const INPUTS: u32 = SHEETS;
 

@@ -18,6 +18,7 @@ mod first_link;
 mod first_unknown;
 mod fits;
 mod hall_line;
+mod header_place;
 mod is_known;
 mod is_up;
 mod journey;
@@ -103,6 +104,7 @@ pub const CALLS: &[Listed] = &[
     listed::<journey_counts::JourneyCounts>(),
     listed::<broadcast::Broadcast>(),
     listed::<read_header::ReadHeader>(),
+    listed::<header_place::HeaderPlace>(),
     listed::<payload::Payload>(),
     listed::<write_header::WriteHeader>(),
     listed::<next_identification::NextIdentification>(),

@@ -2,10 +2,12 @@
 
 use peer::frame::payload;
 use peer::random::Random;
-use peer::refusal::{ADDRESS, CHECKSUM, FIELD, NONE, ROOM, SHORT_FRAME};
 
+use super::read_header::READ_NUMBERS;
 use crate::compare::call::Call;
 use crate::compare::cases::Case;
+use crate::compare::events::{self, Event, Met};
+use crate::compare::faults::Faults;
 use crate::compare::frames::{any_frame, edge_frames, frame, sound_fields};
 use crate::compare::room::{told, Room};
 use crate::rattle;
@@ -21,7 +23,8 @@ impl Call for Payload {
     type Rooms = Room<u8>;
 
     const NAME: &'static str = "payload";
-    const NUMBERS: &'static [u32] = &[NONE, ROOM, SHORT_FRAME, FIELD, CHECKSUM, ADDRESS];
+    const NUMBERS: &'static [u32] = READ_NUMBERS;
+    const EVENTS: &'static [Event] = events::PAYLOAD;
     const INPUTS: u32 = 300_000;
 
     fn any(random: &mut Random) -> Vec<u8> {
@@ -30,6 +33,10 @@ impl Call for Payload {
 
     fn edges() -> impl Iterator<Item = Vec<u8>> {
         edge_frames()
+    }
+
+    fn count(frame: &Vec<u8>, _: u32, _: &Room<u8>, met: &mut Met) {
+        met.add_faults(Faults::of(frame));
     }
 
     fn rooms(frame: &Vec<u8>, random: &mut Random) -> Room<u8> {

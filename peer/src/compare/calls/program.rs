@@ -7,7 +7,7 @@ use std::process::{Command, Stdio};
 use std::str;
 
 use peer::random::Random;
-use peer::refusal::{CODE, FIELD, HALL, LENGTH, NONE, SHEET, UID};
+use peer::refusal::{CODE, HALL, LENGTH, NONE, RETRY, SHEET, UID};
 
 use super::sheet::largest_cases;
 use crate::compare::call::Call;
@@ -28,7 +28,7 @@ impl Call for Program {
     type Rooms = Text;
 
     const NAME: &'static str = "program";
-    const NUMBERS: &'static [u32] = &[NONE, HALL, UID, LENGTH, CODE, FIELD, SHEET];
+    const NUMBERS: &'static [u32] = &[NONE, HALL, UID, LENGTH, CODE, RETRY, SHEET];
     const INPUTS: u32 = 3_000;
     const MEASURED: usize = 1;
 

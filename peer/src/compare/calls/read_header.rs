@@ -2,14 +2,30 @@
 
 use peer::frame::{self, Header};
 use peer::random::Random;
-use peer::refusal::{ADDRESS, CHECKSUM, FIELD, NONE, ROOM, SHORT_FRAME};
+use peer::refusal::{ADDRESS, CHECKSUM, DHL, FLAGS, NONE, PF, ROOM, SHORT_FRAME, VERSION};
 
 use crate::compare::call::Call;
 use crate::compare::cases::Case;
+use crate::compare::events::{self, Event, Met};
+use crate::compare::faults::{Fault, Faults};
 use crate::compare::frames::{any_frame, edge_frames, frame, sound_fields};
 use crate::compare::room::{told, Room};
 use crate::rattle;
 
+/// The random frames of a short comparison of each of the two calls that read a header.
+pub const FRAMES: u32 = 1_000_000;
+/// The numbers that a call can return which reads a frame and writes what it read to lent room.
+pub const READ_NUMBERS: &[u32] = &[
+    NONE,
+    ROOM,
+    SHORT_FRAME,
+    CHECKSUM,
+    ADDRESS,
+    VERSION,
+    DHL,
+    FLAGS,
+    PF,
+];
 /// The bytes of the answer: ten words.
 const BYTES: usize = 40;
 
@@ -21,8 +37,9 @@ impl Call for ReadHeader {
     type Rooms = Room<u8>;
 
     const NAME: &'static str = "read header";
-    const NUMBERS: &'static [u32] = &[NONE, ROOM, SHORT_FRAME, FIELD, CHECKSUM, ADDRESS];
-    const INPUTS: u32 = 1_000_000;
+    const NUMBERS: &'static [u32] = READ_NUMBERS;
+    const EVENTS: &'static [Event] = events::READ_HEADER;
+    const INPUTS: u32 = FRAMES;
 
     fn any(random: &mut Random) -> Vec<u8> {
         any_frame(random)
@@ -30,6 +47,14 @@ impl Call for ReadHeader {
 
     fn edges() -> impl Iterator<Item = Vec<u8>> {
         edge_frames()
+    }
+
+    fn count(frame: &Vec<u8>, _: u32, room: &Room<u8>, met: &mut Met) {
+        let mut faults = Faults::of(frame);
+        if room.length() < BYTES {
+            faults = faults.and(Fault::Room);
+        }
+        met.add_faults(faults);
     }
 
     fn rooms(_: &Vec<u8>, random: &mut Random) -> Room<u8> {

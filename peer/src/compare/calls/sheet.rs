@@ -1,7 +1,7 @@
 //! The reading of a sheet: its hall and the number of its packets.
 
 use peer::random::Random;
-use peer::refusal::{CODE, FIELD, HALL, LENGTH, NONE, ROOM, SHEET, UID};
+use peer::refusal::{CODE, HALL, LENGTH, NONE, RETRY, ROOM, SHEET, UID};
 use peer::sheet;
 
 use crate::compare::call::Call;
@@ -25,7 +25,7 @@ impl Call for Sheet {
     type Rooms = Room<u32>;
 
     const NAME: &'static str = "sheet";
-    const NUMBERS: &'static [u32] = &[NONE, HALL, UID, LENGTH, CODE, ROOM, FIELD, SHEET];
+    const NUMBERS: &'static [u32] = &[NONE, HALL, UID, LENGTH, CODE, ROOM, RETRY, SHEET];
     const INPUTS: u32 = SHEETS;
     const MEASURED: usize = 1;
 

@@ -1,7 +1,7 @@
 //! The hall table of a sheet.
 
 use peer::random::Random;
-use peer::refusal::{CODE, FIELD, HALL, LENGTH, NONE, ROOM, SHEET, UID};
+use peer::refusal::{CODE, HALL, LENGTH, NONE, RETRY, ROOM, SHEET, UID};
 use peer::sheet;
 
 use super::sheet::SHEETS;
@@ -21,7 +21,7 @@ impl Call for SheetCodes {
     type Rooms = Room<u8>;
 
     const NAME: &'static str = "sheet codes";
-    const NUMBERS: &'static [u32] = &[NONE, HALL, UID, LENGTH, CODE, ROOM, FIELD, SHEET];
+    const NUMBERS: &'static [u32] = &[NONE, HALL, UID, LENGTH, CODE, ROOM, RETRY, SHEET];
     const INPUTS: u32 = SHEETS;
 
     fn any(random: &mut Random) -> Sheet {

@@ -1,7 +1,7 @@
 //! One packet of a sheet.
 
 use peer::random::Random;
-use peer::refusal::{CODE, FIELD, HALL, LENGTH, NONE, RANGE, ROOM, SHEET, UID};
+use peer::refusal::{CODE, HALL, LENGTH, NONE, RANGE, RETRY, ROOM, SHEET, UID};
 use peer::sheet;
 
 use super::sheet::SHEETS;
@@ -30,7 +30,7 @@ impl Call for SheetPacket {
     type Rooms = Room<u32>;
 
     const NAME: &'static str = "packet";
-    const NUMBERS: &'static [u32] = &[NONE, HALL, UID, RANGE, LENGTH, CODE, ROOM, FIELD, SHEET];
+    const NUMBERS: &'static [u32] = &[NONE, HALL, UID, RANGE, LENGTH, CODE, ROOM, RETRY, SHEET];
     const INPUTS: u32 = SHEETS;
 
     fn any(random: &mut Random) -> Picked {

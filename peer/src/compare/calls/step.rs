@@ -2,7 +2,7 @@
 
 use peer::forward;
 use peer::random::Random;
-use peer::refusal::{FIELD, HALL, LENGTH, NONE, ROOM, UID};
+use peer::refusal::{HALL, LENGTH, NONE, RETRY, ROOM, UID};
 use peer::route::WORD;
 
 use crate::compare::call::Call;
@@ -23,7 +23,7 @@ impl Call for Step {
     type Rooms = Room<u8>;
 
     const NAME: &'static str = "step";
-    const NUMBERS: &'static [u32] = &[NONE, HALL, UID, LENGTH, ROOM, FIELD];
+    const NUMBERS: &'static [u32] = &[NONE, HALL, UID, LENGTH, ROOM, RETRY];
     const EVENTS: &'static [Event] = events::STEP;
     const INPUTS: u32 = 1_000_000;
     const MEASURED: usize = 128;

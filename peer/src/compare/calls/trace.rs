@@ -1,7 +1,7 @@
 //! The trace of a whole sheet, joined of pieces in rooms of several lengths, a row of the table for each range of lengths of sheets.
 
 use peer::random::Random;
-use peer::refusal::{CODE, FIELD, HALL, LENGTH, NONE, SHEET, UID};
+use peer::refusal::{CODE, HALL, LENGTH, NONE, RETRY, SHEET, UID};
 use peer::{report, sheet};
 
 use crate::compare::call::Call;
@@ -11,9 +11,9 @@ use crate::compare::trails::longest_sheets;
 use crate::rattle;
 
 /// Every number that a sheet of any but the greatest lengths can be refused by, and 0.
-const ALL: &[u32] = &[NONE, HALL, UID, LENGTH, CODE, FIELD, SHEET];
+const ALL: &[u32] = &[NONE, HALL, UID, LENGTH, CODE, RETRY, SHEET];
 /// The same for a length that no sound sheet has.
-const ALL_REFUSED: &[u32] = &[HALL, UID, LENGTH, CODE, FIELD, SHEET];
+const ALL_REFUSED: &[u32] = &[HALL, UID, LENGTH, CODE, RETRY, SHEET];
 
 /// What sets one row apart: its name, the sheets, their numbers, and how many are drawn.
 struct Row {

@@ -2,7 +2,7 @@
 
 use peer::frame::{self, Fields, PROXY_BYTES};
 use peer::random::Random;
-use peer::refusal::{ADDRESS, FIELD, NONE, ROOM};
+use peer::refusal::{ADDRESS, NONE, RETRY, ROOM};
 
 use crate::compare::call::Call;
 use crate::compare::cases::Case;
@@ -31,7 +31,7 @@ impl Call for WriteHeader {
     type Rooms = Room<u8>;
 
     const NAME: &'static str = "write header";
-    const NUMBERS: &'static [u32] = &[NONE, ROOM, FIELD, ADDRESS];
+    const NUMBERS: &'static [u32] = &[NONE, ROOM, RETRY, ADDRESS];
     const INPUTS: u32 = 600_000;
 
     fn any(random: &mut Random) -> Input {
