@@ -5,16 +5,21 @@ use mathlib.Core.List.{List}
 use Prim.Native.Nat.{ℕ, _+_, _*_, _≤_, _<_}
 use native.Mathlib.Omega.{arith}
 use lib.Dec.{eqb}
-use lib.ListN.{length, take, drop}
+use lib.ListN.{length}
 use borrow.Author.Tests.{eq-eqb, ne-eqb, eqb-true, eqb-false, le-leb, lt-leb, leb-true}
 use Rattle.combine.specs.Tests.{either}
 use Rattle.combine.proofs.Tests.{cases, either-true}
 use Rattle.hall.specs.Refusals.{inOrder, short-frame, bad-checksum, bad-address, bad-version, bad-DHL, bad-flags, bad-PF}
 use Rattle.frame.specs.Layout.{version, DHL, payloadLength, flags, checksum, front, theVersion, wordsWith, isPF, valueIn, wordAt}
 use Rattle.frame.specs.Asks.{addressesSound, asksHeader, asksWhole, asksFrame, sumIn, fieldAsks, wholeAsks, frameRefusal}
-use Rattle.frame.specs.Reading.{headerOf, readFrame, payloadOf}
+use Rattle.frame.specs.Reading.{headerOf, readFrame, behindHeader, payloadOf}
 use Rattle.hall.proofs.Asks.{Numbered, ask-holds, ask-fails, hold-accepted, accepted-hold, front-refuses, front-holds}
 use Rattle.frame.proofs.Rows.{words-more, words-flagged}
+
+-- a DHL that counts the words of a header, with a proxy or without
+one-of : (w : ℕ) (proxied : Bool) → w ≡ wordsWith proxied → either (eqb w (wordsWith false)) (eqb w (wordsWith true)) ≡ true
+one-of w true e = rw (eq-eqb w (wordsWith true) e) (either-true (eqb w (wordsWith false)))
+one-of w false e = rw (eq-eqb w (wordsWith false) e)
 
 -- the asks of version, DHL and flags, one after the other
 module _ (v w f : ℕ) where
@@ -35,16 +40,15 @@ module _ (v w f : ℕ) where
         ∙ ask-fails bad-DHL _ _ (rw (ne-eqb w (wordsWith false) d) (ne-eqb w (wordsWith true) g)))
 
     module _ (l : wordsWith false ≤ w) (m : w ≤ wordsWith true) where
-      one-of : either (eqb w (wordsWith false)) (eqb w (wordsWith true)) ≡ true
-      one-of =
-          cases (eqb w (wordsWith false)) (λ q. rw q)
-          (λ q.
-          let e : w ≡ wordsWith true = omega (arith, words-more, eqb-false w (wordsWith false) q) in
-          rw (q, eq-eqb w (wordsWith true) e))
+      counts : either (eqb w (wordsWith false)) (eqb w (wordsWith true)) ≡ true
+      counts =
+          cases (eqb w (wordsWith false))
+          (λ q. one-of w false (eqb-true w (wordsWith false) q))
+          (λ q. one-of w true (omega (arith, words-more, eqb-false w (wordsWith false) q)))
 
       pub header-flags : 1 < f → bad-flags ≡ inOrder (asksHeader v w f)
       unfolding asksHeader
-      header-flags h = sym (ask-holds bad-version _ _ (eq-eqb v theVersion a) ∙ ask-holds bad-DHL _ _ one-of ∙ ask-fails bad-flags _ _ (lt-leb f 1 h))
+      header-flags h = sym (ask-holds bad-version _ _ (eq-eqb v theVersion a) ∙ ask-holds bad-DHL _ _ counts ∙ ask-fails bad-flags _ _ (lt-leb f 1 h))
 
       module _ (h : f ≤ 1) where
         pub header-disagrees : (w ≡ wordsWith false + f → ⊥) → bad-PF ≡ inOrder (asksHeader v w f)
@@ -52,7 +56,7 @@ module _ (v w f : ℕ) where
         header-disagrees d =
             sym
             (ask-holds bad-version _ _ (eq-eqb v theVersion a)
-            ∙ ask-holds bad-DHL _ _ one-of
+            ∙ ask-holds bad-DHL _ _ counts
             ∙ ask-holds bad-flags _ _ (le-leb f 1 h)
             ∙ ask-fails bad-PF _ _ (ne-eqb w (wordsWith (isPF f)) (λ e. d (e ∙ words-flagged f h))))
 
@@ -61,7 +65,7 @@ module _ (v w f : ℕ) where
         header-agrees e =
             sym
             (hold-accepted (asksHeader v w f)
-            (eq-eqb v theVersion a, (one-of, (le-leb f 1 h, (eq-eqb w (wordsWith (isPF f)) (e ∙ sym (words-flagged f h)), tt)))))
+            (eq-eqb v theVersion a, (counts, (le-leb f 1 h, (eq-eqb w (wordsWith (isPF f)) (e ∙ sym (words-flagged f h)), tt)))))
 
   -- DHL and PF agree in a sound header
   pub header-words : inOrder (asksHeader v w f) ≡ 0 → w ≡ wordsWith (isPF f)
@@ -154,7 +158,7 @@ module _ (size : ℕ) (values : ℕ → ℕ) (sum : ℕ) where
         (
           eq-eqb _ _ (s .versioned),
           (
-            one-of (isPF (values flags)) (s .agrees),
+            one-of (values DHL) (isPF (values flags)) (s .agrees),
             (
               le-leb _ _ (s .flagged),
               (
@@ -165,10 +169,6 @@ module _ (size : ℕ) (values : ℕ → ℕ) (sum : ℕ) where
           ),
         ),
       )
-    where
-      one-of : (b : Bool) → values DHL ≡ wordsWith b → either (eqb (values DHL) (wordsWith false)) (eqb (values DHL) (wordsWith true)) ≡ true
-      one-of true e = rw (eq-eqb (values DHL) (wordsWith true) e) (either-true (eqb (values DHL) (wordsWith false)))
-      one-of false e = rw (eq-eqb (values DHL) (wordsWith false) e)
 
 -- the same of a frame
 module _ (frame : List ℕ) where
@@ -187,6 +187,5 @@ module _ (frame : List ℕ) where
   pub accepted-read : frameRefusal frame ≡ 0 → readFrame frame ≡ headerOf (valueIn (wordAt frame))
   accepted-read e = rw e
 
-  pub accepted-payload : frameRefusal frame ≡ 0
-      → payloadOf frame ≡ take (valueIn (wordAt frame) payloadLength) (drop (4 * valueIn (wordAt frame) DHL) frame)
+  pub accepted-payload : frameRefusal frame ≡ 0 → payloadOf frame ≡ behindHeader frame
   accepted-payload e = rw e

@@ -13,7 +13,7 @@ use Rattle.words.specs.Words.{Bytes}
 use Rattle.frame.specs.Layout.{version, DHL, flags, front, wordAt}
 use Rattle.frame.specs.Asks.{asksWhole, fieldAsks, frameRefusal}
 use Rattle.frame.specs.Places.{byteOf, placeIn, placeOf, FirstByte, Places, Shown}
-use Rattle.frame.specs.Reading.{readFrame}
+use Rattle.frame.specs.Reading.{readFrame, PlaceTold}
 use Rattle.frame.specs.Worked.{places-told}
 use Rattle.frame.proofs.Rows.{version-in, DHL-in, flags-in}
 use Rattle.frame.proofs.Frames.{frame-short, frame-header, frame-whole}
@@ -55,8 +55,8 @@ module _ (frame : List ℕ) where
       (λ q. rw q)
 
   -- a read tells the place of its own number
-  pub place-read : readFrame frame .place ≡ placeOf (readFrame frame .refusal)
-  place-read =
+  number-place : readFrame frame .place ≡ placeOf (readFrame frame .refusal)
+  number-place =
       place-refused
       ∙ ap placeOf (cases (eqb (frameRefusal frame) 0) (λ q. rw q (eqb-true (frameRefusal frame) 0 q)) (λ q. rw q))
 
@@ -72,6 +72,9 @@ module _ (frame : List ℕ) where
       let z = eqb-true (inOrder (fieldAsks frame)) 0 q in
       ap placeOf z ∙ none-told .0 ∙ sym (place-refused ∙ ap placeOf (sym (frame-whole frame h z)) ∙ whole-told _ _ _))
       (λ q. ap placeOf (frame-header frame h (eqb-false (inOrder (fieldAsks frame)) 0 q)) ∙ sym place-refused)
+
+pub place-read : PlaceTold
+place-read frame = number-place frame
 
 pub shown : (frame : List ℕ) → Bytes frame → Shown frame
 unfolding wordAt

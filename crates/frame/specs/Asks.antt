@@ -1,6 +1,6 @@
 -- The order in which a frame that is read is refused.
 -- Section "Refusal numbers".
-use Prim.Native.Nat.{ℕ, _+_, _*_}
+use Prim.Native.Nat.{ℕ, _+_, _*_, _≤_, _<_}
 use mathlib.Core.Bool.{Bool, true, false}
 use mathlib.Core.Path.{_≡_}
 use mathlib.Core.List.{List, [], _∷_, _++_}
@@ -61,3 +61,15 @@ pub record Told (words : ℕ → ℕ) (count : ℕ) (proxied : Bool) : Type 0 wh
 -- a frame's refusal
 unfoldable pub frameRefusal : List ℕ → ℕ
 frameRefusal frame = inOrder (asksFrame (length frame) (valueIn (wordAt frame)) (sumIn frame))
+
+-- version, DHL, flags and PF are checked in that order: the first that is at fault gives the number, whatever is behind it
+pub record Checked (values : ℕ → ℕ) (number : ℕ) : Type 0 where
+  pub of-version : (values version ≡ theVersion → ⊥) → number ≡ bad-version
+  pub of-DHL : values version ≡ theVersion → ((proxied : Bool) → values DHL ≡ wordsWith proxied → ⊥) → number ≡ bad-DHL
+  pub of-flags : values version ≡ theVersion → (proxied : Bool) → values DHL ≡ wordsWith proxied → 1 < values flags → number ≡ bad-flags
+  pub of-PF : values version ≡ theVersion → (proxied : Bool) → values DHL ≡ wordsWith proxied → values flags ≤ 1 → (proxied ≡ isPF (values flags) → ⊥)
+      → number ≡ bad-PF
+
+-- in every frame of at least 20 bytes
+abbrev pub FieldsChecked : Type 0
+FieldsChecked = (frame : List ℕ) → 4 * length front ≤ length frame → Checked (valueIn (wordAt frame)) (frameRefusal frame)

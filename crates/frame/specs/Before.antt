@@ -1,17 +1,17 @@
 -- Reading a frame as it was before request K6: version, DHL, flags and PF shared the number 8, and no refusal told a place.
--- Kept for one statement alone: K6 changed nothing else.
+-- Kept for one statement alone: K6 changed nothing else. Sections "Frame header" and "Refusal numbers".
 use Prim.Native.Nat.{ℕ, _*_}
 use mathlib.Core.Bool.{true, false}
 use mathlib.Core.List.{List, [], _∷_, _++_}
 use mathlib.Core.Path.{_≡_}
 use lib.Dec.{eqb, leb}
-use lib.ListN.{length, take, drop}
+use lib.ListN.{length}
 use Rattle.combine.specs.Tests.{pick, both, either}
 use Rattle.hall.specs.Refusals.{Ask, inOrder, answered, short-frame, bad-version, bad-PF}
 use Rattle.frame.specs.declared.Header.{Header}
-use Rattle.frame.specs.Layout.{version, DHL, payloadLength, flags, front, theVersion, wordsWith, isPF, valueIn, wordAt}
+use Rattle.frame.specs.Layout.{version, DHL, flags, front, theVersion, wordsWith, isPF, valueIn, wordAt}
 use Rattle.frame.specs.Asks.{asksWhole, sumIn, frameRefusal}
-use Rattle.frame.specs.Reading.{headerOf, refusedAt, readFrame, payloadOf}
+use Rattle.frame.specs.Reading.{headerOf, refusedAt, readFrame, behindHeader, payloadOf}
 
 -- the number that the four shared
 abbrev pub bad-header : ℕ
@@ -38,10 +38,7 @@ abbrev pub readBefore : List ℕ → Header
 readBefore frame = answered (refusalBefore frame) (headerOf (valueIn (wordAt frame))) (λ number. refusedAt number 0)
 
 abbrev pub payloadBefore : List ℕ → List ℕ
-payloadBefore frame =
-    pick (eqb (refusalBefore frame) 0)
-    (take (valueIn (wordAt frame) payloadLength) (drop (4 * valueIn (wordAt frame) DHL) frame))
-    []
+payloadBefore frame = pick (eqb (refusalBefore frame) 0) (behindHeader frame) []
 
 -- the number of before for each number of now
 unfoldable pub numberBefore : ℕ → ℕ

@@ -3,6 +3,7 @@
 use Prim.Native.Nat.{ℕ, _+_, _*_, _%_}
 use mathlib.Core.Bool.{false}
 use mathlib.Core.List.{List, []}
+use mathlib.Core.Path.{_≡_}
 use lib.Dec.{eqb}
 use lib.ListN.{take, drop}
 use Rattle.combine.specs.Tests.{pick}
@@ -55,12 +56,17 @@ refusedHeader number = refusedAt number (placeOf number)
 abbrev pub readFrame : List ℕ → Header
 readFrame frame = answered (frameRefusal frame) (headerOf (valueIn (wordAt frame))) refusedHeader
 
+-- a read tells the place of its own number
+abbrev pub PlaceTold : Type 0
+PlaceTold = (frame : List ℕ) → readFrame frame .place ≡ placeOf (readFrame frame .refusal)
+
 -- the part behind the header, payload length bytes long; later bytes are padding
+abbrev pub behindHeader : List ℕ → List ℕ
+behindHeader frame = take (valueIn (wordAt frame) payloadLength) (drop (4 * valueIn (wordAt frame) DHL) frame)
+
+-- a frame's payload; a refused frame shows an empty part
 abbrev pub payloadOf : List ℕ → List ℕ
-payloadOf frame =
-    pick (eqb (frameRefusal frame) 0)
-    (take (valueIn (wordAt frame) payloadLength) (drop (4 * valueIn (wordAt frame) DHL) frame))
-    []
+payloadOf frame = pick (eqb (frameRefusal frame) 0) (behindHeader frame) []
 
 -- the identification after a given one: that after 4,294,967,295 is 0
 abbrev pub nextIdentification : ℕ → ℕ
