@@ -50,7 +50,7 @@ static const char worked_step[] = "00000000 00000004 00000013 00000001 00000004 
 #endif
 /* The greatest number. */
 #define HUGE_WORD 4294967295u
-/* The stack in bytes that no call may exceed, as docs/DRIVER.md says: what was measured, a tenth more, and up to the next 16. */
+/* The stack in bytes that no call may exceed, as docs/DRIVER.md says: what was measured and about a tenth more, a multiple of 16. */
 #define STEP_STACK 1536u
 #define ROUTE_STACK 512u
 #define READ_STACK 112u
