@@ -2,8 +2,9 @@
 use mathlib.Core.Path.{_≡_, refl, sym, _∙_, ap}
 use mathlib.Core.Bool.{Bool, true, false, not}
 use mathlib.Core.List.{List}
-use Prim.Native.Nat.{ℕ, zero, suc, _+_, _*_, _/_, _%_, _<_}
-use native.Mathlib.Nat.{mod-lt, div-add-mod', div-eq-of-lt}
+use Prim.Native.Nat.{ℕ, zero, suc, _+_, _*_, _/_, _%_, _≤_, _<_}
+use mathlib.Core.Logic.{⊎-elim}
+use native.Mathlib.Nat.{mod-lt, div-add-mod', div-eq-of-lt, eq-or-lt-of-le}
 use native.Mathlib.Omega.{arith}
 use lib.Dec.{eqb}
 use lib.Arith.{digits-div}
@@ -72,6 +73,22 @@ module _ (h : Hall) (table : List ℕ) where
       either-cases (joined h table j x y) (both (eqb (neighbour (h .n) j x) y) (bothUp h table (suc j) x y)) e
       (λ q. either-left (wired (h .n) j x y) (eqb (neighbour (h .n) j x) y) (joined-wired j x y q))
       (λ q. either-right (wired (h .n) j x y) (eqb (neighbour (h .n) j x) y) (both-left (eqb (neighbour (h .n) j x) y) (bothUp h table (suc j) x y) q))
+
+  -- a link of level j + 1, and one of a level at most l is one of each level from l on
+  pub joined-at : (x y j : ℕ) → neighbour (h .n) j x ≡ y → bothUp h table (suc j) x y ≡ true → joined h table (suc j) x y ≡ true
+  unfolding joined
+  joined-at x y j e u =
+      either-right (joined h table j x y) (both (eqb (neighbour (h .n) j x) y) (bothUp h table (suc j) x y))
+      (both-true (eqb (neighbour (h .n) j x) y) (bothUp h table (suc j) x y) (eq-eqb (neighbour (h .n) j x) y e) u)
+
+  pub joined-more : (x y l m : ℕ) → l ≤ m → joined h table l x y ≡ true → joined h table m x y ≡ true
+  unfolding joined
+  joined-more x y zero zero k e = e
+  joined-more x y (suc l) zero k e = absurd (omega arith)
+  joined-more x y l (suc m) k e =
+      ⊎-elim (λ (q : l ≡ suc m). sym (ap (λ (i : ℕ). joined h table i x y) q) ∙ e)
+      (λ (q : l < suc m). either-left (joined h table m x y) (both (eqb (neighbour (h .n) m x) y) (bothUp h table (suc m) x y)) (joined-more x y l m (omega arith) e))
+      (eq-or-lt-of-le k)
 
   module _ (pos : 0 < h .n) where
     pub joined-symmetric : (l x y : ℕ) → joined h table l x y ≡ joined h table l y x

@@ -48,19 +48,26 @@ part-up h table i u p pos l =
     run-up h table i u (u % t (h .n) i) p (mod-lt u (t-pos (h .n) pos i)) l
     ∙ ap (λ (v : ℕ). up h table v p) (div-add-mod' u (t (h .n) i))
 
--- runs of tables with code 1 at the same places have it at the same places
-pub run-agrees : (h : Hall) (a b : List ℕ) (i u : ℕ) → SameUps a b → SameUps (run h a i u) (run h b i u)
-unfolding SameUps run
-run-agrees h a b i u s v =
-    let m : ℕ = cellLength h i in
-    let d : ℕ = cell (h .n) i u * m in
+-- what is taken of tables with code 1 at the same places, and what is left of them, has it at the same places; and so have their runs
+pub take-agrees : (m : ℕ) (a b : List ℕ) → SameUps a b → SameUps (take m a) (take m b)
+unfolding SameUps
+take-agrees m a b s v =
     cases (ltb v m)
-    (λ e.
-    let l = ltb-true v m e in
-    rw (getD-take {A = ℕ} m (drop d a) v 0 l, getD-take {A = ℕ} m (drop d b) v 0 l, getD-drop {A = ℕ} d a v 0, getD-drop {A = ℕ} d b v 0) (s (d + v)))
+    (λ e. let l = ltb-true v m e in rw (getD-take {A = ℕ} m a v 0 l, getD-take {A = ℕ} m b v 0 l) (s v))
     (λ e.
     let l = ltb-false v m e in
-    rw (List·getD-eq-default {A = ℕ} (take m (drop d a)) 0 {n = v} (omega (arith, length-take m (drop d a))), List·getD-eq-default {A = ℕ} (take m (drop d b)) 0 {n = v} (omega (arith, length-take m (drop d b)))))
+    rw (List·getD-eq-default {A = ℕ} (take m a) 0 {n = v} (omega (arith, length-take m a)), List·getD-eq-default {A = ℕ} (take m b) 0 {n = v} (omega (arith, length-take m b))))
+
+drop-agrees : (m : ℕ) (a b : List ℕ) → SameUps a b → SameUps (drop m a) (drop m b)
+unfolding SameUps
+drop-agrees m a b s v = rw (getD-drop {A = ℕ} m a v 0, getD-drop {A = ℕ} m b v 0) (s (m + v))
+
+pub run-agrees : (h : Hall) (a b : List ℕ) (i u : ℕ) → SameUps a b → SameUps (run h a i u) (run h b i u)
+unfolding run
+run-agrees h a b i u s =
+    let m : ℕ = cellLength h i in
+    let d : ℕ = cell (h .n) i u * m in
+    take-agrees m (drop d a) (drop d b) (drop-agrees d a b s)
 
 -- numbers shifted by a whole number of DCells
 pub eqb-shift : (a x y : ℕ) → eqb (a + x) (a + y) ≡ eqb x y

@@ -19,6 +19,9 @@ not-fitted = 0
 abbrev pub code-up : ℕ
 code-up = 1
 
+abbrev pub isUp : ℕ → Bool
+isUp code = eqb code code-up
+
 abbrev pub code-down : ℕ
 code-down = 2
 
@@ -51,7 +54,7 @@ codeOf h table server port = pick (leb port (h .k)) (getD table (server * (h .k 
 
 -- only code 1 counts as up
 unfoldable pub up : Hall → List ℕ → ℕ → ℕ → Bool
-up h table server port = eqb (codeOf h table server port) code-up
+up h table server port = isUp (codeOf h table server port)
 
 -- the bytes of a hall table
 unfoldable pub tableLength : Hall → ℕ
@@ -75,7 +78,7 @@ part h table u = run h table (h .b) u
 
 -- two tables with code 1 at the same places
 unfoldable pub SameUps : List ℕ → List ℕ → Type 0
-SameUps a b = (i : ℕ) → eqb (getD a i not-fitted) code-up ≡ eqb (getD b i not-fitted) code-up
+SameUps a b = (i : ℕ) → isUp (getD a i not-fitted) ≡ isUp (getD b i not-fitted)
 
 -- every port of a table is up
 unfoldable pub EveryUp : List ℕ → Type 0
