@@ -1,8 +1,9 @@
 /* A driver's first steps: builds a frame, reads it back, asks for its route, forwards it server by server until it ends, and reads a frame
  * that is refused.
  *
- * The hall is n = 4, k = 1, b = 0, with two ports down: port 1 of server 3 and port 1 of server 16. They are the ends of the link that the
- * route from 0 to 19 crosses, so the frame goes round by a proxy. Valid C11 and C++17. */
+ * The hall is n = 4, k = 1, b = 0. The route from 0 to 19 crosses the link between port 1 of server 3 and port 1 of server 16. This link
+ * is a fibre with one broken strand: port 1 of server 3 is up, and port 1 of server 16 is silent. A link is usable only where both of its
+ * ports are up, so the frame goes round by a proxy. Valid C11 and C++17. */
 #include "tbexlum.h"
 
 #include <inttypes.h>
@@ -18,10 +19,14 @@
 #define SERVERS 20u
 #define CELL_SERVERS 4u
 #define PORTS (K + 1u)
-#define CELL_CODES (CELL_SERVERS * PORTS)
+/* The codes of the hall table. */
+#define HALL_CODES (SERVERS * PORTS)
+/* The codes of the table that a step is lent: those of the server's own cell, and one far code for each server of the cell and each level
+ * above b. */
+#define STEP_CODES (CELL_SERVERS * PORTS + CELL_SERVERS * (K - B))
 
-/* The code of a port that is down. */
-#define PORT_DOWN 2u
+/* The code of a port that is silent past its timeout. */
+#define PORT_SILENT 3u
 
 /* The longest payload that this driver carries, and the frame that holds it. */
 #define MOST_PAYLOAD 1500u
@@ -91,14 +96,16 @@ static struct header read_header(const struct frame *frame)
     return says;
 }
 
-/* Takes one step at a server, over the part of the hall table that holds the server's own cell. */
+/* Takes one step at a server, over the table that is taken for it from the hall table. */
 static struct step take_step(uint32_t uid, const struct header *says, const uint8_t *hall_table)
 {
-    const uint8_t *part = hall_table + uid / CELL_SERVERS * CELL_CODES;
+    uint8_t table[TBEXLUM_STEP_TABLE_ROOM];
     uint8_t room[TBEXLUM_STEP_ROOM];
     struct step step;
+    need("tbexlum_step_table", tbexlum_step_table(N, K, B, hall_table, HALL_CODES, uid, table, sizeof table));
+    /* The room may be longer than the table; the step is lent the table's bytes alone. */
     need("tbexlum_step", tbexlum_step(N, K, B, uid, says->destination, says->has_proxy, says->proxy, (uint8_t)says->retry,
-                                      (uint8_t)says->ttl, part, CELL_CODES, room, sizeof room));
+                                      (uint8_t)says->ttl, table, STEP_CODES, room, sizeof room));
     step.ending = tbexlum_word_at(room, TBEXLUM_STEP_ENDING_AT);
     step.next = tbexlum_word_at(room, TBEXLUM_STEP_NEXT_AT);
     step.dst = tbexlum_word_at(room, TBEXLUM_STEP_DST_AT);
@@ -207,13 +214,12 @@ int main(void)
 {
     static const uint8_t payload[] = {'p', 'i', 'n', 'g'};
     static struct frame frame;
-    uint8_t hall_table[SERVERS * PORTS];
+    uint8_t hall_table[HALL_CODES];
     struct header says;
 
     /* Port i of server u is byte u * (k + 1) + i. */
     memset(hall_table, TBEXLUM_PORT_UP, sizeof hall_table);
-    hall_table[3 * PORTS + 1] = PORT_DOWN;
-    hall_table[16 * PORTS + 1] = PORT_DOWN;
+    hall_table[16 * PORTS + 1] = PORT_SILENT; /* the other end, port 1 of server 3, is up */
 
     memset(&says, 0, sizeof says);
     says.protocol = 6;

@@ -1,11 +1,12 @@
-/* The driver's calls: frame header, route and forwarding step, on plain numbers and bytes.
+/* The driver's calls: frame header, route, the table of a step and forwarding step, on plain numbers and bytes.
  *
  * A call that is lent a room returns TBEXLUM_ANSWERED and writes its answer to the start of the room, or returns the number of a refusal
  * and leaves the whole room as lent. Behind the answer the room is unchanged. tbexlum_header_place is lent no room: it returns its answer.
  * Any number may be passed. A slice is a pointer and its length in bytes; NULL may be passed with length 0. A room must not overlap the
  * frame or table of the same call.
  *
- * Answers of tbexlum_route, tbexlum_read_header and tbexlum_step are words: 32 bits, big-endian, at the offsets below. */
+ * Answers of tbexlum_route, tbexlum_read_header and tbexlum_step are words: 32 bits, big-endian, at the offsets below. Those of
+ * tbexlum_write_header and tbexlum_step_table are bytes. */
 #ifndef TBEXLUM_H
 #define TBEXLUM_H
 
@@ -19,7 +20,7 @@ extern "C" {
 /* The version of the calls; bin/install writes it to tbexlum.pc. The major number rises where a driver written for the number before may
  * have to be changed, and the minor number where something was only added. */
 
-#define TBEXLUM_VERSION_MAJOR 2u
+#define TBEXLUM_VERSION_MAJOR 3u
 #define TBEXLUM_VERSION_MINOR 0u
 
 /* What a call that is lent a room returns. The numbers 3, 5 and 10 belong to calls that a driver is not offered, and 12 belongs to none;
@@ -31,7 +32,8 @@ extern "C" {
 #define TBEXLUM_REFUSED_BAD_HALL 1u
 /* A uid that is not below t(k), the servers of the hall. */
 #define TBEXLUM_REFUSED_BAD_UID 2u
-/* A table that is not t(b) * (k + 1) bytes long. */
+/* A table that does not have the length that the call asks for: tbexlum_step_table is lent t(k) * (k + 1) bytes, and tbexlum_step
+ * t(b) * (2 * k + 1 - b) bytes. */
 #define TBEXLUM_REFUSED_BAD_LENGTH 4u
 /* A room shorter than the answer. */
 #define TBEXLUM_REFUSED_SHORT_ROOM 6u
@@ -71,7 +73,7 @@ extern "C" {
 
 /* The bytes of a word. */
 #define TBEXLUM_WORD 4u
-/* The one port code that counts as up; every other byte counts as not usable. */
+/* The one port code that counts as up; every other byte counts as not usable. A link is usable only where both of its ports are up. */
 #define TBEXLUM_PORT_UP 1u
 /* The greatest retry of a packet. */
 #define TBEXLUM_MOST_RETRY 15u
@@ -113,6 +115,11 @@ extern "C" {
 #define TBEXLUM_READ_PROXY_AT 36u
 /* The bytes of the answer. */
 #define TBEXLUM_READ_ROOM 40u
+
+/* The answer of tbexlum_step_table: the codes of the table, a byte each. */
+
+/* A room that every step's table fits in; the table of a step in the hall n, k, b needs its own t(b) * (2 * k + 1 - b) bytes. */
+#define TBEXLUM_STEP_TABLE_ROOM 432u
 
 /* The answer of tbexlum_step. */
 
@@ -156,8 +163,18 @@ uint32_t tbexlum_write_header(uint8_t protocol, uint16_t payload_length, uint32_
                               uint32_t source, uint32_t destination, uint32_t has_proxy, uint32_t proxy,
                               uint8_t *room, size_t room_length);
 
-/* One forwarding step at the server uid, over the table of its own DCell(b): t(b) * (k + 1) port codes, port i of the cell's server j at
- * byte j * (k + 1) + i. Where has_proxy is 0, proxy is not looked at.
+/* The table of a step at the server uid, taken from the hall table: t(k) * (k + 1) port codes, port i of server u at byte
+ * u * (k + 1) + i. The table of a step has two parts:
+ * - the t(b) * (k + 1) codes of the server's own DCell(b), port i of the cell's server j at byte j * (k + 1) + i;
+ * - behind them the t(b) * (k - b) far codes. For each server of the cell in uid order, and within a server for each level i from b + 1
+ *   to k, this is the code of the far port of its link of level i: port i of its neighbour at that level. That of the cell's server j
+ *   is at byte t(b) * (k + 1) + j * (k - b) + (i - b - 1). Where k is b, there is none.
+ * Refusals in order: BAD_HALL, BAD_LENGTH (the hall table), BAD_UID, SHORT_ROOM. */
+uint32_t tbexlum_step_table(uint32_t n, uint32_t k, uint32_t b, const uint8_t *table, size_t table_length, uint32_t uid,
+                            uint8_t *room, size_t room_length);
+
+/* One forwarding step at the server uid, over the table of a step as tbexlum_step_table lays it out: t(b) * (2 * k + 1 - b) port codes.
+ * A link is used only where its ports at both ends have the code TBEXLUM_PORT_UP. Where has_proxy is 0, proxy is not looked at.
  * Refusals in order: BAD_HALL, BAD_LENGTH, BAD_UID (uid, dst, proxy), BAD_RETRY, SHORT_ROOM. */
 uint32_t tbexlum_step(uint32_t n, uint32_t k, uint32_t b, uint32_t uid, uint32_t dst, uint32_t has_proxy, uint32_t proxy,
                       uint8_t retry, uint8_t ttl, const uint8_t *table, size_t table_length, uint8_t *room, size_t room_length);
@@ -194,7 +211,7 @@ static inline const char *tbexlum_refusal_text(uint32_t number)
     case TBEXLUM_REFUSED_BAD_UID:
         return "a uid is not below t(k)";
     case TBEXLUM_REFUSED_BAD_LENGTH:
-        return "the table is not t(b) * (k + 1) bytes long";
+        return "the table does not have the length that the call asks for";
     case TBEXLUM_REFUSED_SHORT_ROOM:
         return "the room is shorter than the answer";
     case TBEXLUM_REFUSED_SHORT_FRAME:

@@ -22,6 +22,8 @@ unset DESTDIR
 passed=0
 pass() { passed=$((passed + 1)); }
 
+# The names of the calls that the header declares, a line each.
+calls() { sed -n 's/^uint32_t \(tbexlum_[a-z_]*\)(.*/\1/p' "$header" | sort; }
 # The names and values of the header's constants, a line each.
 constants() { sed -n 's/^#define \(TBEXLUM_[A-Z_]*\) \([0-9]*\)u$/\1 \2/p' "$header"; }
 constant() { constants | sed -n "s/^$1 //p"; } # NAME
@@ -122,6 +124,19 @@ diff <(printf "$tree/target/installed/%s\n" "${files[@]}" && cat examples/driver
 diff "$folder/before" <(sources) || fail "the commands of $manual leave a file among the sources"
 pass
 
+echo "== calls: $header, $manual"
+numbers=(no one two three four five six seven eight nine ten)
+number=${numbers[$(calls | wc -l)]}
+for said in "The contracts of the $number calls" "It defines the $number calls"; do
+    grep -qF "$said" "$manual" || fail "$manual does not say '$said', as many as $header has"
+done
+while read -r call; do
+    grep -q "^| \`$call\` | [a-z]" "$manual" || fail "$manual has no row for $call in its table of calls"
+    grep -q "^| \`$call\` | [0-9,]* | [0-9,]* |\$" "$manual" || fail "$manual does not say the stack of $call"
+    grep -qx "## $call" "$manual" || fail "$manual has no section for $call"
+done < <(calls)
+pass
+
 echo "== constants: $header, $manual"
 [ "$(constants | wc -l)" -eq "$(grep -c '^#define TBEXLUM_[A-Z_]* ' "$header")" ] || fail "$header has a constant that is no plain number"
 while read -r name value; do
@@ -169,7 +184,6 @@ echo "== the object code, as $manual says"
 readelf -h "$library" | grep -q 'Machine: *Advanced Micro Devices X86-64' || fail "it is not for x86-64"
 if readelf -rW "$library" | grep -o 'R_X86_64_[A-Z0-9_]*' | grep -vxE 'R_X86_64_(PC32|PLT32)'; then fail "it depends on its position"; fi
 if nm -u "$library" | grep ' U '; then fail "it needs a symbol"; fi
-calls() { sed -n 's/^uint32_t \(tbexlum_[a-z_]*\)(.*/\1/p' "$header" | sort; }
 diff <(calls) <(nm -g --defined-only "$library" | awk 'NF == 3 { print $3 }' | sort) || fail "it does not define the calls alone"
 if readelf -SW "$library" | sed 's/^ *\[ *[0-9]*\] *//' | awk '$7 ~ /W/ && $5 !~ /^0+$/' | grep .; then fail "it has writable data"; fi
 objdump -d "$library" | cut -f 3 >"$folder/instructions"

@@ -33,17 +33,23 @@ static const char worked_16_at_8[] = "16060000 00000001 400EA9D3 00000000 000000
 static const char worked_9_at_0[] = "15060000 00000001 500F9AD7 00000000 00000013";
 static const char worked_11_at_0[] = "15060000 00000001 500F1AD6 80000000 00000013";
 static const char worked_7_at_0[] = "15060001 00000001 500F9AD5 00000000 00000013";
-static const char worked_table[] = "01010101 01010102";
+static const char worked_hall_table[] = "0101010101010101 0101010101010101 0101010101010101 0101010101010101 0103010101010101";
+static const char worked_step_table[] = "01010101 01010101 01010103";
 static const char worked_step[] = "00000000 00000004 00000013 00000001 00000004 00000004 0000000E 00000001";
 
 /* Bytes that a room is tried with beyond what its call needs. */
 #define BEYOND 8u
 /* The longest frame: a header with a proxy and the longest payload. */
 #define LONGEST_FRAME (TBEXLUM_HEADER_WITH_PROXY_BYTES + 65535u)
-/* The longest table of a step: 72 servers of 4 ports. */
-#define LONGEST_TABLE 288u
+/* The longest hall table: 27,630,792 servers of 4 ports. */
+#define LONGEST_HALL_TABLE 110523168u
+/* The longest table of a step: 72 servers of 4 ports and 2 far codes. */
+#define LONGEST_TABLE 432u
+/* The table of a step of n = 4, k = 1, b = 0: 4 servers of 2 ports, and behind these 8 codes a far code for each server. */
+#define SMALL_TABLE 12u
+#define SMALL_FAR_AT 8u
 /* A room for any answer. */
-#define ANY_ROOM 256u
+#define ANY_ROOM 512u
 /* Questions of each random test; the stack is measured over twice as many. */
 #ifndef RANDOM_QUESTIONS
 #define RANDOM_QUESTIONS 60000u
@@ -51,11 +57,12 @@ static const char worked_step[] = "00000000 00000004 00000013 00000001 00000004 
 /* The greatest number. */
 #define HUGE_WORD 4294967295u
 /* The stack in bytes that no call may exceed, as docs/DRIVER.md says: what was measured and about a tenth more, a multiple of 16. */
-#define STEP_STACK 1536u
+#define STEP_STACK 1792u
 #define ROUTE_STACK 512u
 #define READ_STACK 112u
 #define PLACE_STACK 80u
 #define WRITE_STACK 192u
+#define TABLE_STACK 336u
 /* What the function that makes the call takes more where it is not optimized. */
 #ifdef __OPTIMIZE__
 #define CALLER_MORE 0u
@@ -156,6 +163,7 @@ struct pages {
 
 static struct pages rooms;  /* where rooms are lent */
 static struct pages inputs; /* where frames and tables are lent */
+static struct pages halls;  /* random bytes that can only be read: the hall table of any hall is a part of them, lent where it lies */
 static uint8_t *paints[2];  /* what the pages of rooms hold before a call; the second is the first with every bit turned */
 
 static struct pages fenced(size_t least)
@@ -182,6 +190,7 @@ static void prepare_pages(void)
     size_t i;
     rooms = fenced(ANY_ROOM);
     inputs = fenced(LONGEST_FRAME);
+    halls = fenced(LONGEST_HALL_TABLE + BEYOND);
     paints[0] = (uint8_t *)malloc(rooms.size);
     paints[1] = (uint8_t *)malloc(rooms.size);
     if (paints[0] == NULL || paints[1] == NULL) {
@@ -191,6 +200,14 @@ static void prepare_pages(void)
     for (i = 0; i < rooms.size; i++) {
         paints[0][i] = (uint8_t)(i * 7 + i / 256 + 33);
         paints[1][i] = (uint8_t)~paints[0][i];
+    }
+    for (i = 0; i < halls.size; i += sizeof seed) {
+        random_word();
+        memcpy(halls.bytes + i, &seed, sizeof seed);
+    }
+    if (mprotect(halls.bytes, halls.size, PROT_READ) != 0) {
+        printf("the pages of hall tables can't be made such that they are only read\n");
+        exit(EXIT_FAILURE);
     }
 }
 
@@ -210,19 +227,20 @@ static int is_kept(const uint8_t *paint, const uint8_t *at, size_t size)
 
 /* ---- Questions: a call with all its arguments but the room ---- */
 
-enum call { ROUTE, READ, PLACE, WRITE, STEP };
-#define CALLS 5u
+enum call { ROUTE, READ, PLACE, WRITE, TABLE, STEP };
+#define CALLS 6u
 
 struct question {
     enum call call;
-    uint32_t n, k, b;                      /* route and step */
+    uint32_t n, k, b;                      /* route, table and step */
     uint32_t from, to, has_proxy, proxy;   /* x or uid or source, y or dst or destination */
     uint8_t retry, ttl;                    /* write and step */
     uint8_t protocol;                      /* write */
     uint16_t payload_length;               /* write */
     uint32_t identification;               /* write */
-    const uint8_t *bytes;                  /* the frame or the table */
+    const uint8_t *bytes;                  /* the frame, the hall table or the table of a step */
     size_t length;
+    int is_in_place;                       /* the bytes are a part of `halls`, and lent where they lie */
 };
 
 static struct question no_question(enum call call)
@@ -266,6 +284,24 @@ static struct question write_question(uint8_t protocol, uint32_t identification,
     return q;
 }
 
+/* The table of a step at a server, from a hall table. */
+static struct question table_question(uint32_t n, uint32_t k, uint32_t b, const uint8_t *hall_table, size_t length, uint32_t uid)
+{
+    struct question q = route_question(n, k, b, uid, 0);
+    q.call = TABLE;
+    q.bytes = hall_table;
+    q.length = length;
+    return q;
+}
+
+/* The same from a hall table of random bytes, which lies at the front or the back of its pages. */
+static struct question table_question_in_place(uint32_t n, uint32_t k, uint32_t b, int back, size_t length, uint32_t uid)
+{
+    struct question q = table_question(n, k, b, part(&halls, back, length), length, uid);
+    q.is_in_place = 1;
+    return q;
+}
+
 /* A step of a packet without a proxy. */
 static struct question step_question(uint32_t n, uint32_t k, uint32_t b, uint32_t uid, uint32_t dst, uint8_t retry, uint8_t ttl,
                                      const uint8_t *table, size_t length)
@@ -298,6 +334,8 @@ static uint32_t ask(const struct question *q, uint8_t *room, size_t length)
     case WRITE:
         return tbexlum_write_header(q->protocol, q->payload_length, q->identification, q->retry, q->ttl, q->from, q->to, q->has_proxy,
                                     q->proxy, room, length);
+    case TABLE:
+        return tbexlum_step_table(q->n, q->k, q->b, q->bytes, q->length, q->from, room, length);
     default:
         return tbexlum_step(q->n, q->k, q->b, q->from, q->to, q->has_proxy, q->proxy, q->retry, q->ttl, q->bytes, q->length, room,
                             length);
@@ -308,12 +346,24 @@ static uint32_t ask(const struct question *q, uint8_t *room, size_t length)
 static struct question lent(const struct question *asked, int back)
 {
     struct question q = *asked;
-    if (q.length != 0) {
+    if (q.length != 0 && !q.is_in_place) {
         uint8_t *at = part(&inputs, back, q.length);
         memcpy(at, asked->bytes, q.length);
         q.bytes = at;
     }
     return q;
+}
+
+/* Whether the frame or table that was lent holds what it held before. */
+static int is_as_lent(const struct question *q, const struct question *asked)
+{
+    return q->length == 0 || q->is_in_place || memcmp(q->bytes, asked->bytes, q->length) == 0;
+}
+
+/* A room that every answer of a call fits in. */
+static size_t most_room(enum call call)
+{
+    return call == TABLE ? TBEXLUM_STEP_TABLE_ROOM : TBEXLUM_ROUTE_ROOM;
 }
 
 /* Whether a call with a room of this length returns the number, writes exactly this answer to the room's start, and keeps the rest. */
@@ -332,7 +382,7 @@ static int tells(const struct question *asked, size_t length, uint32_t number, c
             if (size != 0 && memcmp(room, answer, size) != 0) {
                 return 0;
             }
-            if (q.length != 0 && memcmp(q.bytes, asked->bytes, q.length) != 0) {
+            if (!is_as_lent(&q, asked)) {
                 return 0;
             }
         }
@@ -361,7 +411,7 @@ static int answers(struct question q, const uint8_t *answer, size_t size)
 static int refuses(struct question q, uint32_t number)
 {
     size_t length;
-    for (length = 0; length <= TBEXLUM_ROUTE_ROOM + BEYOND; length++) {
+    for (length = 0; length <= most_room(q.call) + BEYOND; length++) {
         if (!tells(&q, length, number, NULL, 0)) {
             return 0;
         }
@@ -372,7 +422,7 @@ static int refuses(struct question q, uint32_t number)
 /* The same with a room of one length. */
 static int refuses_once(struct question q, uint32_t number)
 {
-    return tells(&q, TBEXLUM_ROUTE_ROOM, number, NULL, 0);
+    return tells(&q, most_room(q.call), number, NULL, 0);
 }
 
 /* Whether a call is answered, whatever the answer is. */
@@ -461,9 +511,98 @@ static uint32_t servers_of(uint32_t n, uint32_t level)
     return t;
 }
 
-static size_t table_length(uint32_t n, uint32_t k, uint32_t b)
+/* The codes of the hall table: k + 1 ports of every server. */
+static size_t hall_table_length(uint32_t n, uint32_t k)
+{
+    return (size_t)servers_of(n, k) * (k + 1);
+}
+
+/* The codes of the table of a cell: k + 1 ports of every server of a DCell(b). */
+static size_t cell_table_length(uint32_t n, uint32_t k, uint32_t b)
 {
     return (size_t)servers_of(n, b) * (k + 1);
+}
+
+/* The codes of the table of a step: those of a cell, and a far code for each of its servers and each level from b + 1 to k. */
+static size_t step_table_length(uint32_t n, uint32_t k, uint32_t b)
+{
+    return cell_table_length(n, k, b) + (size_t)servers_of(n, b) * (k - b);
+}
+
+/* Where the far code of the cell's server j and a level above b stands in the table of a step. */
+static size_t far_at(uint32_t n, uint32_t k, uint32_t b, uint32_t j, uint32_t level)
+{
+    return cell_table_length(n, k, b) + (size_t)j * (k - b) + (level - b - 1);
+}
+
+/* The lowest level whose DCell holds both servers; k where none does. */
+static uint32_t level_of(uint32_t n, uint32_t k, uint32_t x, uint32_t y)
+{
+    uint32_t level = 0;
+    while (level < k && x / servers_of(n, level) != y / servers_of(n, level)) {
+        level++;
+    }
+    return level;
+}
+
+/* Whether two servers are joined by a link of this level. At level 0, two servers of one DCell(0) are. Above it, server p' of sub-cell p
+ * and server q' of sub-cell q of one DCell, p < q, are joined exactly when p' = q - 1 and q' = p. */
+static int are_joined(uint32_t n, uint32_t level, uint32_t x, uint32_t y)
+{
+    uint32_t low = x < y ? x : y;
+    uint32_t high = x < y ? y : x;
+    uint32_t sub;
+    uint32_t start;
+    uint32_t p;
+    uint32_t q;
+    if (level == 0) {
+        return x != y && x / n == y / n;
+    }
+    sub = servers_of(n, level - 1);
+    start = low - low % servers_of(n, level);
+    if (start != high - high % servers_of(n, level)) {
+        return 0;
+    }
+    p = (low - start) / sub;
+    q = (high - start) / sub;
+    return p < q && (low - start) % sub == q - 1 && (high - start) % sub == p;
+}
+
+/* The one server that is joined to a server by a link of this level, which is above 0. */
+static uint32_t neighbour_of(uint32_t n, uint32_t uid, uint32_t level)
+{
+    uint32_t sub = servers_of(n, level - 1);
+    uint32_t start = uid - uid % servers_of(n, level);
+    uint32_t cell = (uid - start) / sub;
+    uint32_t inside = (uid - start) % sub;
+    return inside < cell ? start + inside * sub + cell - 1 : start + (inside + 1) * sub + cell;
+}
+
+/* The code of a server's port in a hall table. */
+static uint8_t code_of(uint32_t k, const uint8_t *hall_table, uint32_t uid, uint32_t port)
+{
+    return hall_table[(size_t)uid * (k + 1) + port];
+}
+
+/* The table of a step at a server; answers its bytes. */
+static size_t step_table_of(uint32_t n, uint32_t k, uint32_t b, const uint8_t *hall_table, uint32_t uid, uint8_t *table)
+{
+    uint32_t cell = servers_of(n, b);
+    uint32_t first = uid - uid % cell;
+    uint32_t server;
+    uint32_t port;
+    size_t count = 0;
+    for (server = first; server < first + cell; server++) {
+        for (port = 0; port <= k; port++) {
+            table[count++] = code_of(k, hall_table, server, port);
+        }
+    }
+    for (server = first; server < first + cell; server++) {
+        for (port = b + 1; port <= k; port++) {
+            table[count++] = code_of(k, hall_table, neighbour_of(n, server, port), port);
+        }
+    }
+    return count;
 }
 
 /* Calls `visit` with every hall there is. */
@@ -1048,6 +1187,208 @@ static void header_both_ways(void)
     }
 }
 
+/* ---- The table of a step ---- */
+
+static void table_known(void)
+{
+    uint8_t hall_table[ANY_ROOM];
+    uint8_t answer[ANY_ROOM];
+    size_t length = bytes_of(worked_hall_table, hall_table);
+    size_t size = bytes_of(worked_step_table, answer);
+    uint32_t uid;
+    DEMAND(length == 40 && hall_table[33] == 3 && size == SMALL_TABLE);
+    for (uid = 0; uid < 4; uid++) { /* one cell, one table */
+        DEMAND(answers(table_question(4, 1, 0, hall_table, length, uid), answer, size));
+    }
+}
+
+/* Halls whose table has each byte's own offset for its code, so that a step's table shows where its codes come from. */
+static void table_offsets(void)
+{
+    /* n = 2, k = 1: the links of level 1 are 0-2, 1-4, 3-5. */
+    static const uint8_t of_1[] = {0, 1, 2, 3, 5, 9}; /* servers 0, 1; port 1 of 2, 4 */
+    static const uint8_t of_3[] = {4, 5, 6, 7, 1, 11}; /* servers 2, 3; port 1 of 0, 5 */
+    static const uint8_t of_4[] = {8, 9, 10, 11, 3, 7}; /* servers 4, 5; port 1 of 1, 3 */
+    /* n = 2, k = 2. The server at place i of DCell(1) number c is joined by level 2 to the place c - 1 of number i where i < c, else to the
+     * place c of number i + 1; a DCell(1) has 6 servers. */
+    static const uint8_t of_5[] = {12, 13, 14, 15, 16, 17, 4, 92, 10, 110}; /* servers 4, 5; port 1 of 1, 2 of 30; port 1 of 3, 2 of 36 */
+    static const uint8_t of_20[] = {54, 55, 56, 57, 58, 59, 60, 61, 62, 63, 64, 65, 66, 67, 68, 69, 70, 71,
+                                    8, 26, 44, 83, 101, 119}; /* servers 18 to 23; port 2 of 2, 8, 14, 27, 33, 39 */
+    static const uint8_t of_41[] = {108, 109, 110, 111, 112, 113, 114, 115, 116, 117, 118, 119, 120, 121, 122, 123, 124, 125,
+                                    17, 35, 53, 71, 89, 107}; /* servers 36 to 41; port 2 of 5, 11, 17, 23, 29, 35 */
+    uint8_t offsets[126];
+    uint8_t i;
+    for (i = 0; i < sizeof offsets; i++) {
+        offsets[i] = i;
+    }
+    DEMAND(answers(table_question(2, 1, 0, offsets, 12, 1), of_1, sizeof of_1));
+    DEMAND(answers(table_question(2, 1, 0, offsets, 12, 3), of_3, sizeof of_3));
+    DEMAND(answers(table_question(2, 1, 0, offsets, 12, 4), of_4, sizeof of_4));
+    DEMAND(answers(table_question(2, 2, 0, offsets, 126, 5), of_5, sizeof of_5));
+    DEMAND(answers(table_question(2, 2, 1, offsets, 126, 20), of_20, sizeof of_20));
+    DEMAND(answers(table_question(2, 2, 1, offsets, 126, 41), of_41, sizeof of_41));
+    /* Where k is b, the hall is one cell, and its table is the hall table. */
+    DEMAND(answers(table_question(7, 0, 0, offsets, 7, 3), offsets, 7));
+    DEMAND(answers(table_question(2, 1, 1, offsets, 12, 3), offsets, 12));
+    DEMAND(answers(table_question(7, 1, 1, offsets, 112, 55), offsets, 112));
+}
+
+/* The longest table fills the room that every table fits in. */
+static void table_longest(void)
+{
+    uint8_t answer[ANY_ROOM];
+    int back;
+    for (back = 0; back < 2; back++) {
+        struct question q = table_question_in_place(8, 3, 1, back, LONGEST_HALL_TABLE, 27630791u - 36000u);
+        DEMAND(step_table_of(8, 3, 1, q.bytes, q.from, answer) == TBEXLUM_STEP_TABLE_ROOM);
+        DEMAND(answers(q, answer, TBEXLUM_STEP_TABLE_ROOM));
+    }
+}
+
+/* Whether the call tells the table of a step of this server, from a hall table at the front and one at the back of its pages: to a room
+ * that fits, and to a longer one. A room that is a byte short is refused. */
+static int tells_table(uint32_t n, uint32_t k, uint32_t b, uint32_t uid)
+{
+    uint8_t answer[ANY_ROOM];
+    uint8_t room[ANY_ROOM];
+    int back;
+    for (back = 0; back < 2; back++) {
+        struct question q = table_question_in_place(n, k, b, back, hall_table_length(n, k), uid);
+        size_t size = step_table_of(n, k, b, q.bytes, uid, answer);
+        struct question step = step_question(n, k, b, uid, 0, 5, 15, answer, size);
+        if (size != step_table_length(n, k, b) || !tells(&q, size, TBEXLUM_ANSWERED, answer, size)
+            || !tells(&q, size + BEYOND, TBEXLUM_ANSWERED, answer, size) || !tells(&q, size - 1, TBEXLUM_REFUSED_SHORT_ROOM, NULL, 0)
+            || ask(&step, room, sizeof room) != TBEXLUM_ANSWERED) {
+            return 0;
+        }
+    }
+    return 1;
+}
+
+static void table_servers(uint32_t n, uint32_t k, uint32_t b)
+{
+    uint32_t t = servers_of(n, k);
+    uint32_t level;
+    uint32_t i;
+    for (i = 0; i < RANDOM_QUESTIONS / 300; i++) {
+        uint32_t uid = random_below(t);
+        DEMAND(tells_table(n, k, b, uid));
+        for (level = 1; level <= k; level++) {
+            uint32_t sub = servers_of(n, level - 1);
+            uint32_t place = random_below(sub);
+            /* What the test itself takes for the neighbour is joined. */
+            DEMAND(are_joined(n, level, uid, neighbour_of(n, uid, level)));
+            /* In sub-cell p the neighbours of the places below p are in lower sub-cells, and those from p on are in higher ones. */
+            DEMAND(tells_table(n, k, b, uid - uid % servers_of(n, level) + place * sub + place));
+        }
+    }
+    for (level = 0; level <= k; level++) { /* the first and the last server of the first and the last DCell of each level */
+        DEMAND(tells_table(n, k, b, 0));
+        DEMAND(tells_table(n, k, b, servers_of(n, level) - 1));
+        DEMAND(tells_table(n, k, b, t - servers_of(n, level)));
+        DEMAND(tells_table(n, k, b, t - 1));
+    }
+    for (i = 0; i < t && t <= 72; i++) {
+        DEMAND(tells_table(n, k, b, i));
+    }
+}
+
+static void table_each_hall(void)
+{
+    each_hall(table_servers);
+}
+
+static void table_halls(void)
+{
+    size_t i;
+    for (i = 0; i < NO_HALLS; i++) {
+        const uint32_t *hall = no_halls[i];
+        DEMAND(refuses(table_question_in_place(hall[0], hall[1], hall[2], 1, 40, 0), TBEXLUM_REFUSED_BAD_HALL));
+        DEMAND(refuses(table_question(hall[0], hall[1], hall[2], NULL, 0, 0), TBEXLUM_REFUSED_BAD_HALL));
+    }
+}
+
+/* Whether a hall table of this length, at the front or the back of its pages, is refused by 4. */
+static int refuses_length(uint32_t n, uint32_t k, uint32_t b, size_t length)
+{
+    return refuses_once(table_question_in_place(n, k, b, 0, length, 0), TBEXLUM_REFUSED_BAD_LENGTH)
+        && refuses_once(table_question_in_place(n, k, b, 1, length, 0), TBEXLUM_REFUSED_BAD_LENGTH);
+}
+
+/* Every length about the one that is needed and about none; for a short hall table every length up to it. */
+static void table_lengths(uint32_t n, uint32_t k, uint32_t b)
+{
+    size_t needed = hall_table_length(n, k);
+    size_t near = needed < 600 ? needed : 64;
+    size_t length;
+    uint32_t i;
+    uint32_t other;
+    DEMAND(is_answered(table_question_in_place(n, k, b, 0, needed, 0)) && is_answered(table_question_in_place(n, k, b, 1, needed, 0)));
+    for (i = 1; i <= near; i++) {
+        DEMAND(refuses_length(n, k, b, needed - i));
+        DEMAND(needed == near || refuses_length(n, k, b, i - 1));
+    }
+    for (length = needed + 1; length <= needed + BEYOND; length++) {
+        DEMAND(refuses_length(n, k, b, length));
+    }
+    for (i = 0; i < 3; i++) {
+        length = random_below(LONGEST_HALL_TABLE);
+        DEMAND(length == needed || refuses_length(n, k, b, length));
+    }
+    for (other = 0; other <= 3; other++) { /* the hall tables of the other levels, and what a step is lent in this hall */
+        DEMAND(other == k || refuses_length(n, k, b, hall_table_length(n, other)));
+    }
+    DEMAND(step_table_length(n, k, b) == needed || refuses_length(n, k, b, step_table_length(n, k, b)));
+    DEMAND(refuses(table_question(n, k, b, NULL, 0, 0), TBEXLUM_REFUSED_BAD_LENGTH));
+    DEMAND(refuses_once(table_question(n, k, b, halls.bytes + halls.size, 0, 0), TBEXLUM_REFUSED_BAD_LENGTH));
+}
+
+static void table_hall_lengths(void)
+{
+    each_hall(table_lengths);
+}
+
+static void table_bounds(uint32_t n, uint32_t k, uint32_t b)
+{
+    uint32_t t = servers_of(n, k);
+    size_t length = hall_table_length(n, k);
+    DEMAND(is_answered(table_question_in_place(n, k, b, 1, length, t - 1)));
+    DEMAND(refuses_once(table_question_in_place(n, k, b, 1, length, t), TBEXLUM_REFUSED_BAD_UID));
+    DEMAND(refuses_once(table_question_in_place(n, k, b, 1, length, 2147483648u), TBEXLUM_REFUSED_BAD_UID));
+    DEMAND(refuses_once(table_question_in_place(n, k, b, 1, length, HUGE_WORD - t), TBEXLUM_REFUSED_BAD_UID));
+    DEMAND(refuses_once(table_question_in_place(n, k, b, 1, length, HUGE_WORD), TBEXLUM_REFUSED_BAD_UID));
+}
+
+static void table_uid_bounds(void)
+{
+    each_hall(table_bounds);
+    DEMAND(refuses(table_question_in_place(4, 1, 0, 1, 40, 20), TBEXLUM_REFUSED_BAD_UID));
+    DEMAND(refuses(table_question_in_place(8, 3, 1, 1, LONGEST_HALL_TABLE, 27630792u), TBEXLUM_REFUSED_BAD_UID));
+}
+
+static void table_order(void)
+{
+    struct question q = table_question(9, 4, 5, NULL, 0, HUGE_WORD);
+    DEMAND(ask(&q, NULL, 0) == TBEXLUM_REFUSED_BAD_HALL);
+    q.n = 4;
+    DEMAND(ask(&q, NULL, 0) == TBEXLUM_REFUSED_BAD_HALL);
+    q.k = 1;
+    DEMAND(ask(&q, NULL, 0) == TBEXLUM_REFUSED_BAD_HALL);
+    q.b = 0;
+    DEMAND(ask(&q, NULL, 0) == TBEXLUM_REFUSED_BAD_LENGTH);
+    q.bytes = halls.bytes;
+    q.length = 39;
+    q.is_in_place = 1;
+    DEMAND(ask(&q, NULL, 0) == TBEXLUM_REFUSED_BAD_LENGTH);
+    q.length = 40;
+    DEMAND(ask(&q, NULL, 0) == TBEXLUM_REFUSED_BAD_UID);
+    q.from = 20;
+    DEMAND(ask(&q, NULL, 0) == TBEXLUM_REFUSED_BAD_UID);
+    q.from = 19;
+    DEMAND(ask(&q, NULL, 0) == TBEXLUM_REFUSED_SHORT_ROOM);
+    DEMAND(is_answered(q));
+}
+
 /* ---- Step ---- */
 
 /* n = 4, k = 1: the hall table of forty codes, up but for two. */
@@ -1062,7 +1403,7 @@ static void step_known(void)
 {
     uint8_t table[ANY_ROOM];
     uint8_t answer[ANY_ROOM];
-    struct question q = step_question(4, 1, 0, 0, 19, 5, 15, table, bytes_of(worked_table, table));
+    struct question q = step_question(4, 1, 0, 0, 19, 5, 15, table, bytes_of(worked_step_table, table));
     DEMAND(bytes_of(worked_step, answer) == TBEXLUM_STEP_ROOM);
     DEMAND(answers(q, answer, TBEXLUM_STEP_ROOM));
     DEMAND(answers_step(q, TBEXLUM_FORWARDED, 4, packet_of(19, 1, 4, 4, 14), 1));
@@ -1073,14 +1414,17 @@ static void step_known(void)
 /* A step whose eight words differ: its proxy in the own cell is cleared, since it can't be reached, and another is set. */
 static void step_offsets(void)
 {
-    static const uint8_t table[] = {1, 2, 1, 1, 2, 1, 1, 2}; /* of the servers 12 to 15 */
-    struct question q = with_proxy(step_question(4, 1, 0, 12, 18, 10, 200, table, sizeof table), 14);
+    static const uint8_t near_out[] = {1, 2, 1, 1, 2, 1, 1, 2, 1, 1, 1, 1}; /* of the servers 12 to 15: port 1 of 12 and 15 is down */
+    static const uint8_t far_out[] = {1, 1, 1, 1, 2, 1, 1, 1, 2, 1, 1, 2};  /* the same links, down at the far end alone */
+    struct question q = with_proxy(step_question(4, 1, 0, 12, 18, 10, 200, near_out, sizeof near_out), 14);
+    DEMAND(answers_step(q, TBEXLUM_FORWARDED, 13, packet_of(18, 1, 6, 8, 199), 2));
+    q.bytes = far_out;
     DEMAND(answers_step(q, TBEXLUM_FORWARDED, 13, packet_of(18, 1, 6, 8, 199), 2));
 }
 
 static void step_delivered(void)
 {
-    static const uint8_t table[8] = {0};
+    static const uint8_t table[SMALL_TABLE] = {0};
     struct question q = step_question(4, 1, 0, 19, 19, 0, 0, table, sizeof table);
     DEMAND(ends(q, TBEXLUM_DELIVERED, 0));
     q.proxy = HUGE_WORD;
@@ -1093,7 +1437,7 @@ static void step_delivered(void)
 
 static void step_drop_ttl(void)
 {
-    uint8_t table[8];
+    uint8_t table[SMALL_TABLE];
     memset(table, TBEXLUM_PORT_UP, sizeof table);
     DEMAND(ends(step_question(4, 1, 0, 16, 19, 5, 0, table, sizeof table), TBEXLUM_DROP_TTL, 0));
     DEMAND(ends(with_proxy(step_question(4, 1, 0, 16, 19, 5, 0, table, sizeof table), 16), TBEXLUM_DROP_TTL, 0));
@@ -1101,24 +1445,26 @@ static void step_drop_ttl(void)
 
 static void step_drop_route(void)
 {
-    static const uint8_t table[8] = {0};
+    static const uint8_t table[SMALL_TABLE] = {0};
     DEMAND(ends(step_question(4, 1, 0, 0, 1, 5, 15, table, sizeof table), TBEXLUM_DROP_ROUTE, 0));
     DEMAND(ends(with_proxy(step_question(4, 1, 0, 0, 1, 5, 15, table, sizeof table), 2), TBEXLUM_DROP_ROUTE, 0));
 }
 
 static void step_drop_retry(void)
 {
-    uint8_t table[40];
-    two_down(table, 2);
-    DEMAND(ends(step_question(4, 1, 0, 0, 19, 1, 15, table, 8), TBEXLUM_DROP_RETRY, 0));
-    DEMAND(ends(step_question(4, 1, 0, 0, 19, 0, 15, table, 8), TBEXLUM_DROP_RETRY, 0));
+    uint8_t hall_table[40];
+    uint8_t table[SMALL_TABLE];
+    two_down(hall_table, 2);
+    DEMAND(step_table_of(4, 1, 0, hall_table, 0, table) == SMALL_TABLE);
+    DEMAND(ends(step_question(4, 1, 0, 0, 19, 1, 15, table, sizeof table), TBEXLUM_DROP_RETRY, 0));
+    DEMAND(ends(step_question(4, 1, 0, 0, 19, 0, 15, table, sizeof table), TBEXLUM_DROP_RETRY, 0));
     memset(table, 0, sizeof table); /* a proxy in the own cell is cleared by one reroute, and the next is one too many */
-    DEMAND(ends(with_proxy(step_question(4, 1, 0, 0, 19, 2, 15, table, 8), 2), TBEXLUM_DROP_RETRY, 1));
+    DEMAND(ends(with_proxy(step_question(4, 1, 0, 0, 19, 2, 15, table, sizeof table), 2), TBEXLUM_DROP_RETRY, 1));
 }
 
 static void step_drop_proxy(void)
 {
-    static const uint8_t table[8] = {0};
+    static const uint8_t table[SMALL_TABLE] = {0};
     DEMAND(ends(step_question(4, 1, 0, 0, 19, 5, 15, table, sizeof table), TBEXLUM_DROP_PROXY, 0));
     DEMAND(ends(with_proxy(step_question(4, 1, 0, 0, 19, 5, 15, table, sizeof table), 2), TBEXLUM_DROP_PROXY, 1));
 }
@@ -1127,22 +1473,81 @@ static void step_codes(void)
 {
     uint32_t code;
     for (code = 0; code < 256; code++) {
-        uint8_t table[8];
+        uint8_t table[SMALL_TABLE];
         memset(table, (int)code, sizeof table);
         if (code == TBEXLUM_PORT_UP) {
-            DEMAND(answers_step(step_question(4, 1, 0, 0, 1, 5, 15, table, 8), TBEXLUM_FORWARDED, 1, packet_of(1, 0, 0, 5, 14), 0));
-            DEMAND(answers_step(step_question(4, 1, 0, 3, 19, 5, 15, table, 8), TBEXLUM_FORWARDED, 16, packet_of(19, 0, 0, 5, 14), 0));
+            DEMAND(answers_step(step_question(4, 1, 0, 0, 1, 5, 15, table, sizeof table), TBEXLUM_FORWARDED, 1,
+                                packet_of(1, 0, 0, 5, 14), 0));
+            DEMAND(answers_step(step_question(4, 1, 0, 3, 19, 5, 15, table, sizeof table), TBEXLUM_FORWARDED, 16,
+                                packet_of(19, 0, 0, 5, 14), 0));
         } else {
-            DEMAND(ends(step_question(4, 1, 0, 0, 1, 5, 15, table, 8), TBEXLUM_DROP_ROUTE, 0));
-            DEMAND(ends(step_question(4, 1, 0, 3, 19, 5, 15, table, 8), TBEXLUM_DROP_PROXY, 0));
+            DEMAND(ends(step_question(4, 1, 0, 0, 1, 5, 15, table, sizeof table), TBEXLUM_DROP_ROUTE, 0));
+            DEMAND(ends(step_question(4, 1, 0, 3, 19, 5, 15, table, sizeof table), TBEXLUM_DROP_PROXY, 0));
         }
+    }
+}
+
+/* Where one end of the link from 3 to 16 has any code but 1, it is not used: neither by server 3, which is its end, nor by server 0, which
+ * would send to 3, nor where 3 is to be a proxy's near end. */
+static void step_strands(void)
+{
+    static const size_t ends_of_3[] = {3 * 2 + 1, SMALL_FAR_AT + 3}; /* the near port and the far port */
+    size_t end;
+    uint32_t code;
+    for (end = 0; end < 2; end++) {
+        for (code = 0; code < 256; code++) {
+            uint8_t table[SMALL_TABLE];
+            struct question at_3 = step_question(4, 1, 0, 3, 19, 5, 15, table, sizeof table);
+            struct question at_0 = step_question(4, 1, 0, 0, 19, 5, 15, table, sizeof table);
+            memset(table, TBEXLUM_PORT_UP, sizeof table);
+            table[ends_of_3[end]] = (uint8_t)code;
+            if (code == TBEXLUM_PORT_UP) {
+                DEMAND(answers_step(at_3, TBEXLUM_FORWARDED, 16, packet_of(19, 0, 0, 5, 14), 0));
+                DEMAND(answers_step(at_0, TBEXLUM_FORWARDED, 3, packet_of(19, 0, 0, 5, 14), 0));
+            } else {
+                DEMAND(answers_step(at_3, TBEXLUM_FORWARDED, 0, packet_of(19, 1, 4, 4, 14), 1));
+                DEMAND(answers_step(at_0, TBEXLUM_FORWARDED, 4, packet_of(19, 1, 4, 4, 14), 1));
+                table[SMALL_FAR_AT] = 3; /* 0 to 4 is out, too: the next server that has a usable link is 1 */
+                DEMAND(answers_step(at_0, TBEXLUM_FORWARDED, 1, packet_of(19, 1, 8, 4, 14), 1));
+                table[SMALL_FAR_AT + 1] = 3;
+                table[SMALL_FAR_AT + 2] = 3;
+                DEMAND(ends(at_3, TBEXLUM_DROP_PROXY, 0));
+                DEMAND(ends(at_0, TBEXLUM_DROP_PROXY, 0));
+            }
+        }
+    }
+}
+
+/* n = 2, k = 2, b = 0: server 5 has a packet to 11, whose route is 5 4 1 0 6 .. : its first link above b is 4-1, of level 1. Behind the six
+ * codes of the servers 4 and 5 stand the far codes of 4 (level 1, level 2) and of 5 (level 1, level 2). */
+static void step_far_places(void)
+{
+    static const uint8_t codes[] = {0, 2, 3, 4, 5, 255};
+    size_t i;
+    for (i = 0; i < sizeof codes; i++) {
+        uint8_t table[10];
+        struct question q = step_question(2, 2, 0, 5, 11, 5, 15, table, sizeof table);
+        memset(table, TBEXLUM_PORT_UP, sizeof table);
+        table[7] = codes[i];
+        table[8] = codes[i];
+        table[9] = codes[i];
+        DEMAND(answers_step(q, TBEXLUM_FORWARDED, 4, packet_of(11, 0, 0, 5, 14), 0)); /* no other far code plays a part */
+        memset(table, TBEXLUM_PORT_UP, sizeof table);
+        table[6] = codes[i];
+        DEMAND(answers_step(q, TBEXLUM_FORWARDED, 3, packet_of(11, 1, 3, 4, 14), 1)); /* 5-3 is the nearest of level 1 */
+        table[8] = codes[i];
+        DEMAND(answers_step(q, TBEXLUM_FORWARDED, 36, packet_of(11, 1, 36, 4, 14), 1)); /* 5-36 is the nearest of level 2 */
+        table[9] = codes[i];
+        DEMAND(answers_step(q, TBEXLUM_FORWARDED, 4, packet_of(11, 1, 30, 4, 14), 1)); /* 4-30 is the last one */
+        table[7] = codes[i];
+        DEMAND(ends(q, TBEXLUM_DROP_PROXY, 0));
     }
 }
 
 static void step_flags(void)
 {
     static const uint32_t flags[] = {1, 2, 256, 65536, 2147483648u, HUGE_WORD};
-    uint8_t table[8];
+    uint8_t table[SMALL_TABLE];
     size_t i;
     memset(table, TBEXLUM_PORT_UP, sizeof table);
     for (i = 0; i < sizeof flags / sizeof flags[0]; i++) {
@@ -1158,7 +1563,7 @@ static void step_halls(void)
     size_t i;
     memset(table, TBEXLUM_PORT_UP, sizeof table);
     for (i = 0; i < NO_HALLS; i++) {
-        struct question q = step_question(no_halls[i][0], no_halls[i][1], no_halls[i][2], 0, 1, 5, 15, table, 8);
+        struct question q = step_question(no_halls[i][0], no_halls[i][1], no_halls[i][2], 0, 1, 5, 15, table, SMALL_TABLE);
         DEMAND(refuses(q, TBEXLUM_REFUSED_BAD_HALL));
         q.bytes = NULL;
         q.length = 0;
@@ -1170,7 +1575,7 @@ static void step_lengths(uint32_t n, uint32_t k, uint32_t b)
 {
     uint8_t table[LONGEST_TABLE + BEYOND];
     uint32_t t = servers_of(n, k);
-    size_t needed = table_length(n, k, b);
+    size_t needed = step_table_length(n, k, b);
     size_t length;
     memset(table, TBEXLUM_PORT_UP, sizeof table);
     for (length = 0; length <= needed + BEYOND; length++) {
@@ -1190,11 +1595,29 @@ static void step_table_lengths(void)
     each_hall(step_lengths);
 }
 
+/* The table of the cell, without the far codes: it is the whole table of a step only where k is b. */
+static void step_without_far(uint32_t n, uint32_t k, uint32_t b)
+{
+    uint8_t table[LONGEST_TABLE];
+    struct question q = step_question(n, k, b, servers_of(n, k) - 1, 0, 5, 15, table, cell_table_length(n, k, b));
+    memset(table, TBEXLUM_PORT_UP, sizeof table);
+    if (k > b) {
+        DEMAND(refuses(q, TBEXLUM_REFUSED_BAD_LENGTH));
+    } else {
+        DEMAND(is_answered(lent(&q, 0)) && is_answered(lent(&q, 1)));
+    }
+}
+
+static void step_cell_tables(void)
+{
+    each_hall(step_without_far);
+}
+
 static void step_bounds(uint32_t n, uint32_t k, uint32_t b)
 {
     uint8_t table[LONGEST_TABLE];
     uint32_t t = servers_of(n, k);
-    size_t length = table_length(n, k, b);
+    size_t length = step_table_length(n, k, b);
     memset(table, TBEXLUM_PORT_UP, sizeof table);
     DEMAND(is_answered(step_question(n, k, b, t - 1, 0, 5, 15, table, length)));
     DEMAND(is_answered(step_question(n, k, b, 0, t - 1, 5, 15, table, length)));
@@ -1214,7 +1637,7 @@ static void step_uid_bounds(void)
 
 static void step_retry(void)
 {
-    uint8_t table[8];
+    uint8_t table[SMALL_TABLE];
     uint32_t retry;
     memset(table, TBEXLUM_PORT_UP, sizeof table);
     for (retry = 0; retry < 256; retry++) {
@@ -1231,7 +1654,7 @@ static void step_retry(void)
 
 static void step_ttl(void)
 {
-    uint8_t table[8];
+    uint8_t table[SMALL_TABLE];
     uint32_t ttl;
     memset(table, TBEXLUM_PORT_UP, sizeof table);
     for (ttl = 1; ttl < 256; ttl++) {
@@ -1242,7 +1665,7 @@ static void step_ttl(void)
 
 static void step_order(void)
 {
-    uint8_t table[8];
+    uint8_t table[SMALL_TABLE];
     struct question q = with_proxy(step_question(9, 4, 5, HUGE_WORD, HUGE_WORD, 255, 255, NULL, 0), HUGE_WORD);
     memset(table, TBEXLUM_PORT_UP, sizeof table);
     DEMAND(ask(&q, NULL, 0) == TBEXLUM_REFUSED_BAD_HALL);
@@ -1264,33 +1687,53 @@ static void step_order(void)
     DEMAND(is_answered(q));
 }
 
+/* What a step answers. */
+struct stepped {
+    uint32_t ending, next, reroutes;
+    struct packet packet;
+};
+
+static struct stepped stepped_of(const uint8_t *room)
+{
+    struct stepped a;
+    a.ending = tbexlum_word_at(room, TBEXLUM_STEP_ENDING_AT);
+    a.next = tbexlum_word_at(room, TBEXLUM_STEP_NEXT_AT);
+    a.reroutes = tbexlum_word_at(room, TBEXLUM_STEP_REROUTES_AT);
+    a.packet = packet_of(tbexlum_word_at(room, TBEXLUM_STEP_DST_AT), tbexlum_word_at(room, TBEXLUM_STEP_HAS_PROXY_AT),
+                         tbexlum_word_at(room, TBEXLUM_STEP_PROXY_AT), tbexlum_word_at(room, TBEXLUM_STEP_RETRY_AT),
+                         tbexlum_word_at(room, TBEXLUM_STEP_TTL_AT));
+    return a;
+}
+
+/* A step at a server over the table that the library takes for it from the hall table. An ending that is none tells that a call refused. */
+static struct stepped step_over(uint32_t n, uint32_t k, uint32_t b, const uint8_t *hall_table, uint32_t uid, struct packet p)
+{
+    uint8_t table[TBEXLUM_STEP_TABLE_ROOM];
+    uint8_t room[TBEXLUM_STEP_ROOM];
+    memset(room, 255, sizeof room);
+    if (tbexlum_step_table(n, k, b, hall_table, hall_table_length(n, k), uid, table, sizeof table) == TBEXLUM_ANSWERED) {
+        tbexlum_step(n, k, b, uid, p.dst, p.has_proxy, p.proxy, (uint8_t)p.retry, (uint8_t)p.ttl, table, step_table_length(n, k, b), room,
+                     sizeof room);
+    }
+    return stepped_of(room);
+}
+
 /* Whether steps over a hall table of n = 4, k = 1 take a packet from 0 by these uids, and end like this. */
 static int passes(uint32_t b, const uint8_t *hall_table, uint32_t dst, uint8_t retry, uint8_t ttl, const uint32_t *uids, size_t count,
                   uint32_t ending, uint32_t reroutes)
 {
     struct packet p = packet_of(dst, 0, 0, retry, ttl);
-    size_t length = table_length(4, 1, b);
     uint32_t made = 0;
     uint32_t uid = 0;
     size_t i;
     for (i = 0; i < count; i++) {
-        uint8_t room[TBEXLUM_STEP_ROOM];
-        if (uid != uids[i]) {
+        struct stepped a = step_over(4, 1, b, hall_table, uid, p);
+        if (uid != uids[i] || a.ending != (i + 1 < count ? TBEXLUM_FORWARDED : ending)) {
             return 0;
         }
-        if (tbexlum_step(4, 1, b, uid, p.dst, p.has_proxy, p.proxy, (uint8_t)p.retry, (uint8_t)p.ttl,
-                         hall_table + uid / servers_of(4, b) * length, length, room, sizeof room)
-            != TBEXLUM_ANSWERED) {
-            return 0;
-        }
-        made += tbexlum_word_at(room, TBEXLUM_STEP_REROUTES_AT);
-        if (tbexlum_word_at(room, TBEXLUM_STEP_ENDING_AT) != (i + 1 < count ? TBEXLUM_FORWARDED : ending)) {
-            return 0;
-        }
-        uid = tbexlum_word_at(room, TBEXLUM_STEP_NEXT_AT);
-        p = packet_of(tbexlum_word_at(room, TBEXLUM_STEP_DST_AT), tbexlum_word_at(room, TBEXLUM_STEP_HAS_PROXY_AT),
-                      tbexlum_word_at(room, TBEXLUM_STEP_PROXY_AT), tbexlum_word_at(room, TBEXLUM_STEP_RETRY_AT),
-                      tbexlum_word_at(room, TBEXLUM_STEP_TTL_AT));
+        made += a.reroutes;
+        uid = a.next;
+        p = a.packet;
     }
     return made == reroutes;
 }
@@ -1311,6 +1754,77 @@ static void step_journeys(void)
     DEMAND(passes(1, table, 19, 5, 15, in_one_cell, 5, TBEXLUM_DELIVERED, 0));
     two_down(table, 7);
     DEMAND(passes(0, table, 19, 5, 15, rerouted, 5, TBEXLUM_DELIVERED, 1));
+    table[7] = TBEXLUM_PORT_UP; /* one broken strand: port 1 of 3 is up, port 1 of 16 is not */
+    DEMAND(passes(0, table, 19, 5, 15, rerouted, 5, TBEXLUM_DELIVERED, 1));
+    DEMAND(passes(0, table, 19, 1, 15, rerouted, 1, TBEXLUM_DROP_RETRY, 0));
+    DEMAND(passes(1, table, 19, 5, 15, in_one_cell, 5, TBEXLUM_DELIVERED, 0));
+    two_down(table, 3);
+    table[33] = TBEXLUM_PORT_UP; /* the other strand */
+    DEMAND(passes(0, table, 19, 5, 15, rerouted, 5, TBEXLUM_DELIVERED, 1));
+    DEMAND(passes(1, table, 19, 5, 15, in_one_cell, 5, TBEXLUM_DELIVERED, 0));
+}
+
+/* Journeys of random packets over random hall tables, by the library's own tables of steps: each ends, and crosses only links whose ports
+ * have code 1 at both ends in the hall table. */
+static void step_random_journeys(void)
+{
+    static uint8_t hall_table[8192];
+    uint32_t journeys = RANDOM_QUESTIONS / 4 + 400;
+    uint32_t endings[6] = {0, 0, 0, 0, 0, 0};
+    uint32_t levels[4] = {0, 0, 0, 0};
+    uint32_t n = 0;
+    uint32_t k = 0;
+    uint32_t b = 0;
+    uint32_t i;
+    size_t byte;
+    for (i = 0; i < journeys; i++) {
+        struct stepped a;
+        uint32_t uid;
+        uint32_t ttl;
+        if (i % 4 == 0) { /* another hall */
+            uint32_t broken = 2u << random_below(6); /* one port of so many has any code */
+            k = random_below(4);
+            b = random_below(k == 0 ? 1 : 2);
+            do {
+                n = 2 + random_below(7);
+            } while (hall_table_length(n, k) > sizeof hall_table);
+            for (byte = 0; byte < hall_table_length(n, k); byte++) {
+                hall_table[byte] = random_below(broken) == 0 ? (uint8_t)random_below(6) : (uint8_t)TBEXLUM_PORT_UP;
+            }
+        }
+        uid = random_below(servers_of(n, k));
+        a.packet = packet_of(random_below(servers_of(n, k)), random_below(4) == 0, random_below(servers_of(n, k)), random_below(16),
+                             random_below(4) == 0 ? random_below(8) : 255);
+        ttl = a.packet.ttl;
+        do {
+            uint32_t at = uid;
+            uint32_t level;
+            a = step_over(n, k, b, hall_table, at, a.packet);
+            if (a.ending != TBEXLUM_FORWARDED) {
+                break;
+            }
+            DEMAND(a.next < servers_of(n, k) && a.packet.ttl + 1 == ttl);
+            if (!is_good) {
+                break;
+            }
+            uid = a.next;
+            ttl = a.packet.ttl;
+            level = level_of(n, k, at, uid);
+            DEMAND(are_joined(n, level, at, uid));
+            DEMAND(code_of(k, hall_table, at, level) == TBEXLUM_PORT_UP);
+            DEMAND(code_of(k, hall_table, uid, level) == TBEXLUM_PORT_UP);
+            levels[level]++;
+        } while (is_good);
+        DEMAND(a.ending != TBEXLUM_FORWARDED && a.ending <= TBEXLUM_DELIVERED);
+        DEMAND((a.ending == TBEXLUM_DELIVERED) == (uid == a.packet.dst));
+        endings[a.ending % 6]++;
+    }
+    for (i = TBEXLUM_DROP_TTL; i <= TBEXLUM_DELIVERED; i++) {
+        DEMAND(endings[i] > journeys / 100); /* the journeys are worth taking */
+    }
+    for (i = 0; i < 4; i++) {
+        DEMAND(levels[i] > journeys / 20);
+    }
 }
 
 /* ---- Any question ---- */
@@ -1323,6 +1837,7 @@ static const uint32_t returned[CALLS][8] = {
      TBEXLUM_REFUSED_BAD_PF, TBEXLUM_REFUSED_BAD_CHECKSUM, TBEXLUM_REFUSED_BAD_ADDRESS, TBEXLUM_REFUSED_SHORT_ROOM},
     /* PLACE */ {8},
     /* WRITE */ {TBEXLUM_REFUSED_BAD_RETRY, TBEXLUM_REFUSED_BAD_ADDRESS, TBEXLUM_REFUSED_SHORT_ROOM},
+    /* TABLE */ {TBEXLUM_REFUSED_BAD_HALL, TBEXLUM_REFUSED_BAD_LENGTH, TBEXLUM_REFUSED_BAD_UID, TBEXLUM_REFUSED_SHORT_ROOM},
     /* STEP */
     {TBEXLUM_REFUSED_BAD_HALL, TBEXLUM_REFUSED_BAD_LENGTH, TBEXLUM_REFUSED_BAD_UID, TBEXLUM_REFUSED_BAD_RETRY,
      TBEXLUM_REFUSED_SHORT_ROOM},
@@ -1340,7 +1855,7 @@ static int may_return(enum call call, uint32_t number)
     return number == TBEXLUM_ANSWERED;
 }
 
-/* The most bytes that a call writes. */
+/* The most bytes that a call writes where it answers. */
 static size_t most_written(const struct question *q)
 {
     switch (q->call) {
@@ -1352,12 +1867,14 @@ static size_t most_written(const struct question *q)
         return 0;
     case WRITE:
         return q->has_proxy != 0 ? TBEXLUM_HEADER_WITH_PROXY_BYTES : TBEXLUM_HEADER_BYTES;
+    case TABLE:
+        return step_table_length(q->n, q->k, q->b);
     default:
         return TBEXLUM_STEP_ROOM;
     }
 }
 
-/* Frames and tables of random questions. */
+/* Frames and steps' tables of random questions. */
 static uint8_t random_bytes[LONGEST_TABLE + BEYOND];
 
 /* Damages a header: its version, its DHL, its flags, one byte, or all. */
@@ -1388,7 +1905,7 @@ static void damage(uint8_t *frame)
 static struct question random_question(enum call call)
 {
     int is_sound = random_below(2) == 0;
-    int has_hall = call == ROUTE || call == STEP;
+    int has_hall = call == ROUTE || call == TABLE || call == STEP;
     struct question q = no_question(call);
     uint32_t limit;
     size_t i;
@@ -1405,9 +1922,14 @@ static struct question random_question(enum call call)
     q.protocol = (uint8_t)random_word();
     q.payload_length = (uint16_t)(is_sound ? random_below(40) : random_number(40));
     q.identification = random_word();
+    if (call == TABLE) {
+        size_t length = is_sound ? hall_table_length(q.n, q.k) : random_below(2) == 0 ? random_number(50) : 40;
+        length = length <= LONGEST_HALL_TABLE ? length : LONGEST_HALL_TABLE;
+        q = table_question_in_place(q.n, q.k, q.b, (int)random_below(2), length, q.from);
+    }
     if (call == STEP) {
         q.bytes = random_bytes;
-        q.length = is_sound ? table_length(q.n, q.k, q.b) : random_below(LONGEST_TABLE + BEYOND + 1);
+        q.length = is_sound ? step_table_length(q.n, q.k, q.b) : random_below(LONGEST_TABLE + BEYOND + 1);
         for (i = 0; i < q.length; i++) {
             random_bytes[i] = random_below(4) == 0 ? (uint8_t)random_word() : (uint8_t)TBEXLUM_PORT_UP;
         }
@@ -1425,23 +1947,24 @@ static struct question random_question(enum call call)
 
 static void any_question(void)
 {
-    static const enum call calls[CALLS] = {ROUTE, READ, PLACE, WRITE, STEP};
-    uint32_t answered[CALLS] = {0, 0, 0, 0, 0};
+    static const enum call calls[CALLS] = {ROUTE, READ, PLACE, WRITE, TABLE, STEP};
+    uint32_t answered[CALLS] = {0, 0, 0, 0, 0, 0};
     uint32_t i;
     for (i = 0; i < RANDOM_QUESTIONS; i++) {
         struct question asked = random_question(calls[i % CALLS]);
         int back = (int)random_below(2);
         struct question q = lent(&asked, back);
         const uint8_t *paint = paints[random_below(2)];
-        size_t length = random_below(TBEXLUM_ROUTE_ROOM + BEYOND + 1);
+        size_t length = random_below((uint32_t)(most_room(q.call) + BEYOND + 1));
         uint8_t *room = part(&rooms, back, length);
-        size_t most = most_written(&q);
+        size_t most;
         uint32_t number;
         memcpy(rooms.bytes, paint, rooms.size);
         number = ask(&q, room, length);
+        most = number != TBEXLUM_ANSWERED ? 0 : most_written(&q);
         DEMAND(may_return(q.call, number));
-        DEMAND(is_kept(paint, room, number != TBEXLUM_ANSWERED ? 0 : most < length ? most : length));
-        DEMAND(q.length == 0 || memcmp(q.bytes, asked.bytes, q.length) == 0);
+        DEMAND(is_kept(paint, room, most < length ? most : length));
+        DEMAND(is_as_lent(&q, &asked));
         answered[i % CALLS] += number == TBEXLUM_ANSWERED;
     }
     for (i = 0; i < CALLS; i++) {
@@ -1474,17 +1997,17 @@ static void any_place(void)
     }
 }
 
-/* ---- The port to the next server ---- */
+/* ---- Steps over random tables: the port to the next server, and the far codes ---- */
 
-/* The one server that is joined to a server by a link of this level, which is above 0. In their DCell, server p' of sub-cell p and server
- * q' of sub-cell q, p < q, are joined when p' = q - 1 and q' = p. */
-static uint32_t neighbour_of(uint32_t n, uint32_t uid, uint32_t level)
+/* The code of a port of a server in the table of its own cell, and the far code of its link of a level above b. */
+static uint8_t code_in_cell(const struct question *q, uint32_t uid, uint32_t port)
 {
-    uint32_t sub = servers_of(n, level - 1);
-    uint32_t start = uid - uid % servers_of(n, level);
-    uint32_t cell = (uid - start) / sub;
-    uint32_t inside = (uid - start) % sub;
-    return inside < cell ? start + inside * sub + cell - 1 : start + (inside + 1) * sub + cell;
+    return q->bytes[uid % servers_of(q->n, q->b) * (q->k + 1) + port];
+}
+
+static uint8_t far_code(const struct question *q, uint32_t uid, uint32_t level)
+{
+    return q->bytes[far_at(q->n, q->k, q->b, uid % servers_of(q->n, q->b), level)];
 }
 
 static void step_ports(void)
@@ -1495,7 +2018,7 @@ static void step_ports(void)
         struct question q = random_question(STEP);
         uint8_t room[TBEXLUM_STEP_ROOM];
         uint32_t next;
-        uint32_t port = 0;
+        uint32_t port;
         if (ask(&q, room, sizeof room) != TBEXLUM_ANSWERED) {
             continue;
         }
@@ -1508,17 +2031,73 @@ static void step_ports(void)
             continue;
         }
         next = tbexlum_word_at(room, TBEXLUM_STEP_NEXT_AT);
-        while (port < q.k && q.from / servers_of(q.n, port) != next / servers_of(q.n, port)) {
-            port++;
-        }
-        DEMAND(q.from != next && q.from / servers_of(q.n, port) == next / servers_of(q.n, port));
-        DEMAND(port == 0 || next == neighbour_of(q.n, q.from, port));
-        DEMAND(q.bytes[q.from % servers_of(q.n, q.b) * (q.k + 1) + port] == TBEXLUM_PORT_UP);
+        port = level_of(q.n, q.k, q.from, next);
+        DEMAND(are_joined(q.n, port, q.from, next));
+        DEMAND(code_in_cell(&q, q.from, port) == TBEXLUM_PORT_UP);
+        DEMAND((port <= q.b ? code_in_cell(&q, next, port) : far_code(&q, q.from, port)) == TBEXLUM_PORT_UP);
         levels[port]++;
     }
     for (i = 0; i < 4; i++) {
         DEMAND(levels[i] > RANDOM_QUESTIONS / 500); /* the questions are worth asking */
     }
+}
+
+/* The first link above b of a step's route: its near end, and its level. Answers whether there is one. */
+static int first_link_above(const struct question *q, uint32_t *near, uint32_t *level)
+{
+    uint32_t goal = q->has_proxy != 0 && q->proxy != q->from ? q->proxy : q->to;
+    uint8_t room[ANY_ROOM];
+    size_t count = route_uids(q->n, q->k, q->from, goal, room);
+    size_t i;
+    for (i = 0; i + 1 < count; i++) {
+        *near = tbexlum_word_at(room, TBEXLUM_ROUTE_UIDS_AT + i * TBEXLUM_WORD);
+        *level = level_of(q->n, q->k, *near, tbexlum_word_at(room, TBEXLUM_ROUTE_UIDS_AT + (i + 1) * TBEXLUM_WORD));
+        if (*level > q->b) {
+            return 1;
+        }
+    }
+    return 0;
+}
+
+/* A step that forwards without a reroute looks at one far code, that of the first link above b of its route: with any other codes in place
+ * of all the others it answers the same, and with any code but 1 in place of this one it does not. */
+static void step_one_far(void)
+{
+    uint32_t with_link = 0;
+    uint32_t without_link = 0;
+    uint32_t i;
+    for (i = 0; i < RANDOM_QUESTIONS; i++) {
+        struct question q = random_question(STEP);
+        uint8_t before[TBEXLUM_STEP_ROOM];
+        uint8_t after[TBEXLUM_STEP_ROOM];
+        uint32_t near = 0;
+        uint32_t level = 0;
+        int is_above;
+        size_t only;
+        size_t at;
+        if (ask(&q, before, sizeof before) != TBEXLUM_ANSWERED || tbexlum_word_at(before, TBEXLUM_STEP_ENDING_AT) != TBEXLUM_FORWARDED
+            || tbexlum_word_at(before, TBEXLUM_STEP_REROUTES_AT) != 0) {
+            continue;
+        }
+        is_above = first_link_above(&q, &near, &level);
+        only = is_above ? far_at(q.n, q.k, q.b, near % servers_of(q.n, q.b), level) : q.length;
+        for (at = cell_table_length(q.n, q.k, q.b); at < q.length; at++) {
+            if (at != only) {
+                random_bytes[at] = (uint8_t)random_below(6);
+            }
+        }
+        DEMAND(ask(&q, after, sizeof after) == TBEXLUM_ANSWERED && memcmp(before, after, sizeof after) == 0);
+        if (is_above) {
+            DEMAND(random_bytes[only] == TBEXLUM_PORT_UP);
+            random_bytes[only] = (uint8_t)(2 + random_below(255)); /* 2 to 255, or 0 */
+            DEMAND(ask(&q, after, sizeof after) == TBEXLUM_ANSWERED);
+            DEMAND(tbexlum_word_at(after, TBEXLUM_STEP_REROUTES_AT) != 0
+                   || tbexlum_word_at(after, TBEXLUM_STEP_ENDING_AT) != TBEXLUM_FORWARDED);
+        }
+        with_link += is_above != 0;
+        without_link += !is_above;
+    }
+    DEMAND(with_link > RANDOM_QUESTIONS / 100 && without_link > RANDOM_QUESTIONS / 100); /* the questions are worth asking */
 }
 
 /* ---- The header's version and helpers ---- */
@@ -1572,7 +2151,7 @@ static void helper_refusals(void)
         "n, k or b is outside its range",
         "a uid is not below t(k)",
         NULL,
-        "the table is not t(b) * (k + 1) bytes long",
+        "the table does not have the length that the call asks for",
         NULL,
         "the room is shorter than the answer",
         "the frame is shorter than 20 bytes, than DHL says, or than the payload length says",
@@ -1640,10 +2219,11 @@ static size_t depth(uint8_t paint)
     return sizeof deep_stack - i;
 }
 
-/* Steps that reroute twice, and then search the local cell for a server that is not self: the deepest there are. */
+/* Steps that reroute twice, and then search the local cell for a server that is not self: the deepest there are. Near ports above b are
+ * up, so that every far code is looked at. */
 static void ask_deep_steps(void)
 {
-    static const uint8_t small[] = {1, 2, 1, 1, 2, 1, 1, 2};
+    static const uint8_t small[] = {1, 1, 1, 1, 2, 1, 1, 1, 3, 1, 1, 3};
     static uint8_t large[LONGEST_TABLE];
     struct question q = with_proxy(step_question(4, 1, 0, 12, 18, 10, 200, small, sizeof small), 14);
     uint32_t server;
@@ -1653,8 +2233,10 @@ static void ask_deep_steps(void)
         uint8_t is_proxy = server == 5;
         large[4 * server] = is_proxy ? 2 : 1;
         large[4 * server + 1] = is_proxy ? 2 : 1;
-        large[4 * server + 2] = 2;
-        large[4 * server + 3] = server == 70 ? 1 : 2;
+        large[4 * server + 2] = 1;
+        large[4 * server + 3] = 1;
+        large[far_at(8, 3, 1, server, 2)] = 3;
+        large[far_at(8, 3, 1, server, 3)] = server == 70 ? 1 : 3;
     }
     q = with_proxy(step_question(8, 3, 1, 0, 27630791u, 15, 255, large, sizeof large), 5);
     DEMAND(answers_step(q, TBEXLUM_FORWARDED, 7, packet_of(27630791u, 1, 373176, 13, 254), 2));
@@ -1690,12 +2272,15 @@ static void stack_fits(void)
     size_t read = stack_of(READ);
     size_t place = stack_of(PLACE);
     size_t write = stack_of(WRITE);
+    size_t table = stack_of(TABLE);
     size_t step = stack_of(STEP);
-    printf("bytes of stack: route %zu, read_header %zu, header_place %zu, write_header %zu, step %zu\n", route, read, place, write, step);
+    printf("bytes of stack: route %zu, read_header %zu, header_place %zu, write_header %zu, step_table %zu, step %zu\n", route, read, place,
+           write, table, step);
     DEMAND(route <= ROUTE_STACK + CALLER_MORE);
     DEMAND(read <= READ_STACK + CALLER_MORE);
     DEMAND(place <= PLACE_STACK + CALLER_MORE);
     DEMAND(write <= WRITE_STACK + CALLER_MORE);
+    DEMAND(table <= TABLE_STACK + CALLER_MORE);
     DEMAND(step <= STEP_STACK + CALLER_MORE);
 }
 #endif
@@ -1734,6 +2319,15 @@ int main(int count, char **words)
     run("place: frames of every length have it from 20 bytes on, and 0 below", place_lengths);
     run("write and read: headers are those of the layout, and read back to their fields", header_both_ways);
 
+    run("step table: the known table, in rooms of every length, for each server of the cell", table_known);
+    run("step table: each code comes from its offset in the hall table, and with k = b there are no far codes", table_offsets);
+    run("step table: the longest has 432 bytes and fills the room that fits every table", table_longest);
+    run("step table: in every hall, each code is that of its port, and a room a byte short is refused by 6", table_each_hall);
+    run("step table: numbers that make no hall are refused by 1", table_halls);
+    run("step table: in every hall, hall tables of another length are refused by 4", table_hall_lengths);
+    run("step table: in every hall, uids from t(k) on are refused by 2", table_uid_bounds);
+    run("step table: refusals come in the order 1, 4, 2, 6", table_order);
+
     run("step: the known step, in rooms of every length", step_known);
     run("step: each word stands at its offset, a proxy cleared and another set", step_offsets);
     run("step: delivered, the packet as it came", step_delivered);
@@ -1742,15 +2336,20 @@ int main(int count, char **words)
     run("step: drop 3, the retry is spent", step_drop_retry);
     run("step: drop 4, no proxy", step_drop_proxy);
     run("step: of all 256 codes only 1 is up", step_codes);
+    run("step: a link above b is not used where one of its ends, near or far, has any code but 1", step_strands);
+    run("step: each far code is that of its own server and level", step_far_places);
     run("step: every flag but 0 is a proxy", step_flags);
     run("step: numbers that make no hall are refused by 1", step_halls);
     run("step: in every hall, tables of every other length are refused by 4", step_table_lengths);
+    run("step: in every hall with k above b, the codes of the cell without far codes are refused by 4", step_cell_tables);
     run("step: in every hall, uids from t(k) on are refused by 2", step_uid_bounds);
     run("step: a retry above 15 is refused by 8, at the destination too", step_retry);
     run("step: every TTL above 0 is lowered by one", step_ttl);
     run("step: refusals come in the order 1, 4, 2, 8, 6", step_order);
     run("step: the known journeys, step by step", step_journeys);
-    run("step: the port of the lowest level that holds both is up and leads to the next server", step_ports);
+    run("step: the port of the lowest level that holds both is up at both ends and leads to the next server", step_ports);
+    run("step: without a reroute it looks at one far code, that of its route's first link above b", step_one_far);
+    run("step table and step: random journeys end, and cross only links that are up at both ends", step_random_journeys);
 
     run("read and place: any frame has the place of its number, and 0 where no field is at fault", any_place);
     run("all: any question gets a number of its call, and only the answer's bytes change", any_question);

@@ -224,7 +224,7 @@ expect "the usage, asked for" 0 "$usage" "" "$command" -h
 expect "an unknown option" 2 "" $'trace: --all: there is no such option; trace --help names them\n' "$command" --all
 lost=$(grep -v DELIVERED examples/large.expected)$'\n'
 mean="mean of the delivered packets:"
-summary="packets 24, delivered 14, lost 10 (DROP1 2, DROP2 2, DROP3 4, DROP4 2); $mean links 4.64, reroutes 0.50"$'\n'
+summary="packets 24, delivered 15, lost 9 (DROP1 2, DROP2 2, DROP3 3, DROP4 2); $mean links 4.73, reroutes 0.47"$'\n'
 expect "the lost packets alone" 0 "$lost" "" "$command" --lost examples/large.sheet
 expect "no packet that was lost" 0 $'HALL 4 1 0\nEND 1\n' "" "$command" --lost examples/small.sheet
 expect "a summary" 0 "$large" "trace: examples/large.sheet: $summary" "$command" --summary examples/large.sheet

@@ -43,12 +43,26 @@ fn uid(random: &mut Random, h: Hall) -> u32 {
 /// The longest table made; a larger hall gets one of the wrong length.
 const LONGEST_TABLE: u32 = 10_000;
 
-/// A table for a DCell of the hall, mostly of the right length, of any bytes or mostly code 1.
+/// A table for a DCell of the hall, mostly of the right length.
 fn table(random: &mut Random, h: Hall, level: u32) -> Vec<u8> {
     let right = match sizes(h).refusal {
         0 => LONGEST_TABLE.min(naive::size(h.n, level) * (h.k + 1)),
         _ => random.below(100),
     };
+    codes(random, right)
+}
+
+/// A table for a step in the hall, mostly of the right length.
+fn step_table(random: &mut Random, h: Hall) -> Vec<u8> {
+    let right = match sizes(h).refusal {
+        0 => naive::step_length(h) as u32,
+        _ => random.below(100),
+    };
+    codes(random, right)
+}
+
+/// Codes, mostly as many as is right, of any bytes or mostly code 1.
+fn codes(random: &mut Random, right: u32) -> Vec<u8> {
     let length = if random.once_in(12) {
         random.below(right + 3)
     } else {
@@ -138,7 +152,8 @@ fn table_calls_answer_any_numbers_and_bytes() {
         assert!(away.refusal == 0 || away.distance == [0; 72]);
         let hop = local::next_hop(h, x, uid(&mut random, h), &own);
         assert!(hop.found == 1 || hop.uid == 0);
-        let turn = step(h, x, packet(&mut random, h), &own);
+        let lent = step_table(&mut random, h);
+        let turn = step(h, x, packet(&mut random, h), &lent);
         assert!(turn.ending == 0 || turn.next == 0);
         let trip = journey(h, x, packet(&mut random, h), &whole);
         assert_eq!(trip.refusal == 0, (1..=5).contains(&trip.ending));

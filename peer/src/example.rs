@@ -48,7 +48,7 @@ const PACKETS: [(u32, u32, u8, u8); 24] = [
     // Around what is out, inside a DCell(1): no reroute.
     (30, 35, 5, 15),
     (130, 1_234, 5, 64),
-    // Around a cable between two DCell(1)s: by a proxy, or by two.
+    // Around a cable between two DCell(1)s, by a proxy.
     (0, 42, 5, 15),
     (42, 0, 5, 64),
     (4, 45, 5, 15),
@@ -61,7 +61,7 @@ const PACKETS: [(u32, u32, u8, u8); 24] = [
     // Lost: no route to a server of the same DCell(1).
     (99, 100, 5, 15),
     (1_500, 100, 5, 15),
-    // Lost: retry spent.
+    // Lost: retry spent; one more is enough for the second of these packets.
     (5, 50, 1, 64),
     (5, 50, 2, 64),
     (0, 430, 5, 64),

@@ -2,7 +2,7 @@
 
 use crate::hall::{self, Hall, Scale};
 use crate::local::{LocalCell, NO_DISTANCE};
-use crate::ports;
+use crate::ports::{self, UP};
 use crate::refusal;
 use crate::route::Way;
 
@@ -56,8 +56,8 @@ pub struct Journey {
     pub uids: [u32; JOURNEY_ROOM],
 }
 
-/// One step of a packet at a server that is lent the table of its DCell(b).
-pub fn step(h: Hall, uid: u32, packet: Packet, table_of_cell: &[u8]) -> Step {
+/// One step of a packet at a server that is lent the table of its DCell(b), with the codes of the far ports above b behind it.
+pub fn step(h: Hall, uid: u32, packet: Packet, step_table: &[u8]) -> Step {
     let refused = |refusal| Step {
         refusal,
         ending: 0,
@@ -74,19 +74,38 @@ pub fn step(h: Hall, uid: u32, packet: Packet, table_of_cell: &[u8]) -> Step {
     let Some(scale) = hall::scale(h) else {
         return refused(refusal::HALL);
     };
-    if table_of_cell.len() != scale.table_length(h.b, h.k) {
+    let Some((near, far)) = ports::step_parts(scale, h, step_table) else {
         return refused(refusal::LENGTH);
-    }
+    };
     let fault = packet.fault(uid, scale.size(h.k));
     if fault != refusal::NONE {
         return refused(fault);
     }
     let first = scale.first(uid, h.b);
-    Site::new(h, scale, uid, first, table_of_cell).step(packet.plain())
+    let far = LentCodes { h, codes: far };
+    Site::new(h, scale, uid, first, near, &far).step(packet.plain())
 }
 
 /// The journey of a packet from a source through the hall table.
 pub fn journey(h: Hall, source: u32, packet: Packet, hall_table: &[u8]) -> Journey {
+    let far = HallCodes { h, hall_table };
+    journey_by(h, source, packet, hall_table, &far)
+}
+
+/// The journey of a packet whose steps judge a link above level b by its near port alone.
+pub fn journey_near_alone(h: Hall, source: u32, packet: Packet, hall_table: &[u8]) -> Journey {
+    journey_by(h, source, packet, hall_table, &NearAlone)
+}
+
+/// The journey of a packet, with what its steps know of the far ports above level b.
+#[inline]
+fn journey_by(
+    h: Hall,
+    source: u32,
+    packet: Packet,
+    hall_table: &[u8],
+    far: &impl FarPorts,
+) -> Journey {
     let refused = |refusal| Journey {
         refusal,
         ending: 0,
@@ -104,7 +123,7 @@ pub fn journey(h: Hall, source: u32, packet: Packet, hall_table: &[u8]) -> Journ
     if fault != refusal::NONE {
         return refused(fault);
     }
-    travel(h, scale, source, packet.plain(), hall_table)
+    travel(h, scale, source, packet.plain(), hall_table, far)
 }
 
 /// The journey of a sound packet through a table of the right length.
@@ -114,6 +133,7 @@ fn travel(
     source: u32,
     mut packet: Packet,
     hall_table: &[u8],
+    far: &impl FarPorts,
 ) -> Journey {
     let mut answer = Journey {
         refusal: refusal::NONE,
@@ -127,7 +147,7 @@ fn travel(
         answer.uids[answer.links as usize % JOURNEY_ROOM] = uid;
         let first = scale.first(uid, h.b);
         let table = ports::cell_part(scale, h.k, hall_table, first, h.b);
-        let step = Site::new(h, scale, uid, first, table).step(packet);
+        let step = Site::new(h, scale, uid, first, table, far).step(packet);
         answer.reroutes += step.reroutes;
         if step.ending != FORWARDED {
             answer.ending = step.ending;
@@ -183,13 +203,58 @@ impl Packet {
     }
 }
 
-/// The server a step is at, with its DCell(b); places count from `first` on.
-struct Site<'a> {
+/// What a step knows of the far ports of the links above level b.
+trait FarPorts {
+    /// Whether the far port of a link above b is up, as far as is known; the link goes from a place of the cell to the server `far`.
+    fn up(&self, place: usize, level: u32, far: u32) -> bool;
+}
+
+/// The far codes lent to a step: server by server, and within a server from level b + 1 to k.
+struct LentCodes<'a> {
+    h: Hall,
+    codes: &'a [u8],
+}
+
+impl FarPorts for LentCodes<'_> {
+    #[inline]
+    fn up(&self, place: usize, level: u32, _: u32) -> bool {
+        let Hall { k, b, .. } = self.h;
+        let code = place * (k - b) as usize + (level - b - 1) as usize;
+        self.codes.get(code) == Some(&UP)
+    }
+}
+
+/// The far codes where they stand in the hall table.
+struct HallCodes<'a> {
+    h: Hall,
+    hall_table: &'a [u8],
+}
+
+impl FarPorts for HallCodes<'_> {
+    #[inline]
+    fn up(&self, _: usize, level: u32, far: u32) -> bool {
+        ports::is_up(self.h, self.hall_table, far, level)
+    }
+}
+
+/// No far code at all: the near port decides alone.
+struct NearAlone;
+
+impl FarPorts for NearAlone {
+    #[inline]
+    fn up(&self, _: usize, _: u32, _: u32) -> bool {
+        true
+    }
+}
+
+/// The server a step is at, with its DCell(b) and what is known of the far ports above b; places count from `first` on.
+struct Site<'a, F> {
     h: Hall,
     scale: &'static Scale,
     uid: u32,
     first: u32,
     cell: LocalCell<'a>,
+    far: &'a F,
 }
 
 /// A packet inside a step, with what the step remembers of it.
@@ -206,16 +271,24 @@ enum Pass {
     Reroute(Way),
 }
 
-impl<'a> Site<'a> {
-    /// The site of a server, with a table of the right length.
+impl<'a, F: FarPorts> Site<'a, F> {
+    /// The site of a server, with a table of its cell of the right length.
     #[inline]
-    fn new(h: Hall, scale: &'static Scale, uid: u32, first: u32, table: &'a [u8]) -> Site<'a> {
+    fn new(
+        h: Hall,
+        scale: &'static Scale,
+        uid: u32,
+        first: u32,
+        table: &'a [u8],
+        far: &'a F,
+    ) -> Site<'a, F> {
         Site {
             h,
             scale,
             uid,
             first,
             cell: LocalCell::new(h, scale, table),
+            far,
         }
     }
 
@@ -258,7 +331,7 @@ impl<'a> Site<'a> {
     fn pass(&self, packet: &Packet) -> Pass {
         let way = Way::between(self.h, self.scale, self.uid, packet.goal());
         if way.level > 0 {
-            if !self.cell.up(way.near, way.level) {
+            if !self.usable(way.near, way.level, way.far) {
                 return Pass::Reroute(way);
             }
             if way.near == self.place() {
@@ -304,17 +377,36 @@ impl<'a> Site<'a> {
         let distance = distance.get(..self.cell.count())?;
         for level in m..=self.h.k {
             let mut nearest = NO_DISTANCE;
-            let mut chosen = 0;
+            let mut proxy = None;
             for (place, &away) in (0..).zip(distance) {
-                if away < nearest && self.cell.up(place, level) {
-                    (nearest, chosen) = (away, place as u32);
+                if away >= nearest {
+                    continue;
+                }
+                if let Some(far) = self.usable_neighbour(place, level) {
+                    (nearest, proxy) = (away, Some(far));
                 }
             }
-            if nearest != NO_DISTANCE {
-                return Some(self.scale.neighbour(self.first + chosen, level));
+            if proxy.is_some() {
+                return proxy;
             }
         }
         None
+    }
+
+    /// The neighbour of a place at a level above b, where the link to it is usable.
+    #[inline]
+    fn usable_neighbour(&self, place: usize, level: u32) -> Option<u32> {
+        if !self.cell.up(place, level) {
+            return None;
+        }
+        let far = self.scale.neighbour(self.first + place as u32, level);
+        self.far.up(place, level, far).then_some(far)
+    }
+
+    /// Whether the link of a level above b from a place to a far server is usable.
+    #[inline]
+    fn usable(&self, place: usize, level: u32, far: u32) -> bool {
+        self.cell.up(place, level) && self.far.up(place, level, far)
     }
 }
 
@@ -359,7 +451,7 @@ impl Work {
 mod tests {
     use super::*;
     use crate::naive;
-    use crate::ports::part;
+    use crate::ports::step_table;
     use crate::random::Random;
 
     const HALL: Hall = Hall { n: 4, k: 1, b: 0 };
@@ -467,20 +559,20 @@ mod tests {
                 packet,
                 reroutes: 0,
             };
-            assert_eq!(step(HALL, 3, packet, &[0; 8]), answer);
+            assert_eq!(step(HALL, 3, packet, &[0; 12]), answer);
         }
     }
 
     #[test]
     fn ttl_0_drops_the_packet_as_it_came() {
         let packet = over(0, to(19, 5, 0));
-        let answer = step(HALL, 0, packet, &[1; 8]);
+        let answer = step(HALL, 0, packet, &[1; 12]);
         assert_eq!((answer.ending, answer.packet), (DROP_TTL, packet));
     }
 
     #[test]
     fn forwarding_lowers_the_ttl_at_the_first_sender_too() {
-        let answer = step(HALL, 0, to(19, 5, 255), &[1; 8]);
+        let answer = step(HALL, 0, to(19, 5, 255), &[1; 12]);
         assert_eq!(
             answer,
             Step {
@@ -499,22 +591,22 @@ mod tests {
             proxy: u32::MAX,
             ..to(dst, 5, ttl)
         };
-        assert_eq!(step(HALL, 0, odd(19, 9), &[1; 8]).packet, to(19, 5, 8));
-        assert_eq!(step(HALL, 0, odd(0, 9), &[1; 8]).packet, to(0, 5, 9));
-        assert_eq!(step(HALL, 0, odd(19, 0), &[1; 8]).packet, to(19, 5, 0));
-        assert_eq!(step(HALL, 0, odd(19, 9), &[0; 8]).packet, to(19, 5, 9));
+        assert_eq!(step(HALL, 0, odd(19, 9), &[1; 12]).packet, to(19, 5, 8));
+        assert_eq!(step(HALL, 0, odd(0, 9), &[1; 12]).packet, to(0, 5, 9));
+        assert_eq!(step(HALL, 0, odd(19, 0), &[1; 12]).packet, to(19, 5, 0));
+        assert_eq!(step(HALL, 0, odd(19, 9), &[0; 12]).packet, to(19, 5, 9));
     }
 
     #[test]
     fn an_arrived_packet_loses_its_proxy() {
-        let answer = step(HALL, 4, over(4, to(19, 4, 14)), &[1; 8]);
+        let answer = step(HALL, 4, over(4, to(19, 4, 14)), &[1; 12]);
         assert_eq!((answer.next, answer.reroutes), (7, 0));
         assert_eq!(answer.packet, to(19, 4, 13));
     }
 
     #[test]
     fn an_unreachable_proxy_in_the_own_cell_is_cleared_by_a_reroute() {
-        let mut table = [1; 8];
+        let mut table = [1; 12];
         table[2] = 2;
         let answer = step(HALL, 0, over(1, to(19, 5, 9)), &table);
         assert_eq!(
@@ -531,7 +623,7 @@ mod tests {
 
     #[test]
     fn an_unreachable_proxy_with_dst_in_the_own_cell_is_drop_2_though_dst_is_in_reach() {
-        let mut table = [1; 8];
+        let mut table = [1; 12];
         table[2] = 2;
         let packet = over(1, to(3, 5, 9));
         let answer = step(HALL, 0, packet, &table);
@@ -543,7 +635,7 @@ mod tests {
 
     #[test]
     fn a_clearing_and_a_setting_are_two_reroutes_of_one_step() {
-        let mut table = [1; 8];
+        let mut table = [1; 12];
         table[2] = 2;
         table[7] = 2;
         let answer = step(HALL, 0, over(1, to(19, 5, 9)), &table);
@@ -558,7 +650,7 @@ mod tests {
     #[test]
     fn an_arrived_packet_looks_for_a_proxy_one_level_higher() {
         let h = Hall { n: 2, k: 2, b: 0 };
-        let mut table = [1; 6];
+        let mut table = [1; 10];
         table[4] = 2;
         let plain = step(h, 0, to(4, 5, 9), &table);
         assert_eq!(plain.packet.proxy, 2);
@@ -587,7 +679,7 @@ mod tests {
         assert_eq!(step(bad, 99, all_wrong, &[]), refused(1));
         assert_eq!(step(HALL, 99, all_wrong, &[]), refused(4));
         assert_eq!(journey(bad, 99, all_wrong, &[]), none(1));
-        assert_eq!(journey(HALL, 99, all_wrong, &[1; 8]), none(4));
+        assert_eq!(journey(HALL, 99, all_wrong, &[1; 12]), none(4));
         let cases = [
             (99, to(0, 16, 0), 2),
             (0, to(99, 16, 0), 2),
@@ -596,10 +688,10 @@ mod tests {
             (0, to(1, 255, 0), 8),
         ];
         for (uid, packet, refusal) in cases {
-            assert_eq!(step(HALL, uid, packet, &[1; 8]), refused(refusal));
+            assert_eq!(step(HALL, uid, packet, &[1; 12]), refused(refusal));
             assert_eq!(journey(HALL, uid, packet, &[1; 40]), none(refusal));
         }
-        assert_eq!(step(HALL, 0, to(0, 15, 0), &[1; 8]).ending, DELIVERED);
+        assert_eq!(step(HALL, 0, to(0, 15, 0), &[1; 12]).ending, DELIVERED);
     }
 
     fn any_packet(random: &mut Random, count: u32) -> Packet {
@@ -611,6 +703,29 @@ mod tests {
         }
     }
 
+    /// The table lent to a step of a server.
+    fn own_table(h: Hall, table: &[u8], uid: u32) -> Vec<u8> {
+        let mut room = vec![0; naive::step_length(h)];
+        assert_eq!(step_table(h, table, uid, &mut room), 0);
+        room
+    }
+
+    /// A hall table of a random small hall, of which one code in so many is not up, with a server and a packet.
+    fn any_trip(random: &mut Random, one_fault_in: u32) -> (Hall, Vec<u8>, u32, Packet) {
+        let halls = naive::small_halls();
+        let h = halls[random.below(halls.len() as u32) as usize];
+        let count = naive::servers(h);
+        let table = naive::table(random, (count * (h.k + 1)) as usize, one_fault_in);
+        (h, table, random.below(count), any_packet(random, count))
+    }
+
+    /// The level of the one link between two servers.
+    fn level_of(h: Hall, x: u32, y: u32) -> u32 {
+        let level = naive::joint_level(h, x, y);
+        assert!(naive::linked(h, x, y, level), "{h:?} {x} {y}");
+        level
+    }
+
     /// A server of a random DCell around another.
     fn nearby(random: &mut Random, h: Hall, uid: u32) -> u32 {
         let t = naive::size(h.n, random.below(h.k + 1));
@@ -619,7 +734,7 @@ mod tests {
 
     /// Compares random steps of one hall with the literal ones; counts how often each ending came.
     fn compare_steps(random: &mut Random, h: Hall, turns: u32, endings: &mut [u32; 6]) {
-        let length = (naive::size(h.n, h.b) * (h.k + 1)) as usize;
+        let length = naive::step_length(h);
         for faults in [0, 20, 5, 3, 2] {
             for _ in 0..turns {
                 let table = naive::table(random, length, faults);
@@ -662,7 +777,7 @@ mod tests {
         let mut most = 0;
         for h in naive::small_halls() {
             let count = naive::servers(h);
-            let length = (naive::size(h.n, h.b) * (h.k + 1)) as usize;
+            let length = naive::step_length(h);
             for _ in 0..2000 {
                 let table = naive::table(&mut random, length, 3);
                 let uid = random.below(count);
@@ -680,7 +795,7 @@ mod tests {
     }
 
     #[test]
-    fn a_journey_repeats_the_step_over_the_parts_of_the_table() {
+    fn a_journey_repeats_the_step_over_the_tables_of_its_servers() {
         let mut random = Random::new(256);
         for h in naive::small_halls() {
             let count = naive::servers(h);
@@ -694,7 +809,7 @@ mod tests {
                     let (mut uid, mut packet) = (source, first);
                     let (mut passed, mut reroutes) = (vec![source], 0);
                     let ending = loop {
-                        let turn = step(h, uid, packet, part(h, &table, uid).1);
+                        let turn = step(h, uid, packet, &own_table(h, &table, uid));
                         reroutes += turn.reroutes;
                         if turn.ending != FORWARDED {
                             break turn.ending;
@@ -703,6 +818,7 @@ mod tests {
                         passed.push(uid);
                     };
                     assert_eq!(answer, told(ending, reroutes, &passed));
+                    assert_eq!(answer, naive::journey(h, source, first, &table));
                 }
             }
         }
@@ -760,5 +876,185 @@ mod tests {
             }
         }
         assert!(spent > 0);
+    }
+
+    /// All codes up but that of port 1 of server 16, the far end of its link with server 3.
+    fn broken_strand() -> [u8; 40] {
+        let mut table = [1; 40];
+        table[33] = 3;
+        table
+    }
+
+    #[test]
+    fn a_strand_broken_at_the_far_end_is_rerouted_around() {
+        assert_eq!(
+            journey(HALL, 0, to(19, 5, 15), &broken_strand()),
+            told(5, 1, &[0, 4, 7, 17, 19])
+        );
+        assert_eq!(
+            journey_near_alone(HALL, 0, to(19, 5, 15), &broken_strand()),
+            told(5, 0, &[0, 3, 16, 19])
+        );
+    }
+
+    #[test]
+    fn a_far_code_has_its_place_behind_the_cell_and_only_1_is_up() {
+        let forwarded = |table: &[u8]| step(HALL, 0, to(19, 5, 15), table).next;
+        for code in 0..=255 {
+            let mut table = [1; 12];
+            table[8 + 3] = code;
+            assert_eq!(forwarded(&table), if code == 1 { 3 } else { 4 });
+            let mut table = [1; 12];
+            (table[8 + 3], table[8]) = (2, code);
+            let next = if code == 1 { 4 } else { 1 };
+            assert_eq!(forwarded(&table), next);
+        }
+    }
+
+    #[test]
+    fn far_codes_of_two_levels_stand_server_by_server() {
+        let h = Hall { n: 2, k: 2, b: 0 };
+        let level_1_of_server_1 = 6 + 2;
+        let mut table = [1; 10];
+        table[level_1_of_server_1] = 3;
+        assert_eq!(step(h, 0, to(4, 5, 9), &table).packet.proxy, 2);
+        let level_2_of_server_0 = 6 + 1;
+        table[level_2_of_server_0] = 0;
+        let arrived = step(h, 0, over(0, to(4, 5, 9)), &table);
+        assert_eq!((arrived.next, arrived.packet.proxy), (1, 12));
+    }
+
+    #[test]
+    fn a_hall_of_top_level_b_has_no_far_codes() {
+        let flat = Hall { n: 4, k: 0, b: 0 };
+        assert_eq!(step(flat, 0, to(3, 5, 9), &[1; 4]).next, 3);
+        assert_eq!(step(WIDE, 0, to(19, 5, 9), &codes(2)).next, 2);
+        for (h, right) in [(flat, 4), (WIDE, 40)] {
+            for length in [0, right - 1, right + 1, 2 * right] {
+                let answer = step(h, 0, to(3, 5, 9), &vec![1; length]);
+                assert_eq!(answer.refusal, 4);
+            }
+        }
+    }
+
+    #[test]
+    fn a_step_asks_for_the_longer_length() {
+        for h in naive::small_halls() {
+            let right = naive::step_length(h);
+            let short = (naive::size(h.n, h.b) * (h.k + 1)) as usize;
+            let hall = (naive::servers(h) * (h.k + 1)) as usize;
+            for length in [0, 1, short - 1, short, right - 1, right, right + 1, hall] {
+                let refusal = step(h, 0, to(1, 5, 9), &vec![1; length]).refusal;
+                assert_eq!(refusal, if length == right { 0 } else { 4 }, "{h:?}");
+            }
+        }
+    }
+
+    #[test]
+    fn with_every_port_up_both_rules_give_the_same_journeys() {
+        let mut random = Random::new(31);
+        for _ in 0..5_000 {
+            let (h, table, source, packet) = any_trip(&mut random, 0);
+            assert_eq!(
+                journey(h, source, packet, &table),
+                journey_near_alone(h, source, packet, &table)
+            );
+        }
+    }
+
+    #[test]
+    fn the_rule_of_the_near_port_takes_every_far_port_as_up() {
+        let mut random = Random::new(32);
+        let mut apart = 0;
+        for turn in 0..5_000 {
+            let (h, table, source, first) = any_trip(&mut random, [3, 5, 20][turn % 3]);
+            let answer = journey_near_alone(h, source, first, &table);
+            let cell = (naive::size(h.n, h.b) * (h.k + 1)) as usize;
+            let (mut uid, mut packet) = (source, first);
+            let (mut passed, mut reroutes) = (vec![source], 0);
+            let ending = loop {
+                let mut own = own_table(h, &table, uid);
+                own[cell..].fill(1);
+                let turn = naive::step(h, uid, packet, &own);
+                reroutes += turn.reroutes;
+                if turn.ending != FORWARDED {
+                    break turn.ending;
+                }
+                (uid, packet) = (turn.next, turn.packet);
+                passed.push(uid);
+            };
+            assert_eq!(answer, told(ending, reroutes, &passed));
+            apart += u32::from(answer != journey(h, source, first, &table));
+        }
+        assert!(apart > 100, "{apart}");
+    }
+
+    #[test]
+    fn a_step_over_the_table_of_a_server_is_the_first_of_the_journey() {
+        let mut random = Random::new(33);
+        let mut forwarded = 0;
+        for turn in 0..10_000 {
+            let (h, table, source, packet) = any_trip(&mut random, [2, 3, 5, 20][turn % 4]);
+            let answer = journey(h, source, packet, &table);
+            let first = step(h, source, packet, &own_table(h, &table, source));
+            if first.ending != FORWARDED {
+                assert_eq!(answer, told(first.ending, first.reroutes, &[source]));
+                continue;
+            }
+            let rest = journey(h, first.next, first.packet, &table);
+            let passed = &rest.uids[..=rest.links as usize];
+            let reroutes = first.reroutes + rest.reroutes;
+            assert_eq!(
+                answer,
+                told(rest.ending, reroutes, &[&[source], passed].concat())
+            );
+            forwarded += 1;
+        }
+        assert!(forwarded > 1_000, "{forwarded}");
+    }
+
+    #[test]
+    fn no_journey_crosses_a_link_of_which_an_end_is_not_up() {
+        let mut random = Random::new(34);
+        let mut into_strands = 0;
+        for turn in 0..20_000 {
+            let (h, table, source, packet) = any_trip(&mut random, [3, 5, 20][turn % 3]);
+            let up = |uid, level| table[(uid * (h.k + 1) + level) as usize] == 1;
+            let broken = |answer: &Journey| {
+                let passed = &answer.uids[..=answer.links as usize];
+                let broken = |pair: &&[u32]| {
+                    let level = level_of(h, pair[0], pair[1]);
+                    !up(pair[0], level) || !up(pair[1], level)
+                };
+                passed.windows(2).filter(broken).count()
+            };
+            assert_eq!(broken(&journey(h, source, packet, &table)), 0);
+            into_strands += broken(&journey_near_alone(h, source, packet, &table));
+        }
+        assert!(into_strands > 1_000, "{into_strands}");
+    }
+
+    #[test]
+    fn two_hall_tables_with_the_same_step_table_give_the_same_step() {
+        let mut random = Random::new(35);
+        let mut met = [0; 6];
+        for turn in 0..10_000 {
+            let (h, table, uid, packet) = any_trip(&mut random, [2, 3, 5, 20][turn % 4]);
+            let mut other = naive::table(&mut random, table.len(), [1, 2, 20][turn % 3]);
+            for place in naive::step_places(h, uid) {
+                other[place] = table[place];
+            }
+            // A packet of TTL 1 is sent on at most once, so its journey tells of no other table.
+            let packet = Packet { ttl: 1, ..packet };
+            let answer = journey(h, uid, packet, &table);
+            assert_eq!(answer, journey(h, uid, packet, &other));
+            let own = step(h, uid, packet, &own_table(h, &table, uid));
+            assert_eq!(own, step(h, uid, packet, &own_table(h, &other, uid)));
+            met[own.ending as usize] += 1;
+        }
+        assert!(
+            met[0] > 1_000 && met[2..].iter().all(|&times| times > 20),
+            "{met:?}"
+        );
     }
 }

@@ -14,7 +14,7 @@ use std::io::{self, Read, Write};
 use std::process::ExitCode;
 use std::time::{SystemTime, UNIX_EPOCH};
 
-use compare::failures::{self, Side};
+use compare::failures::{self, Side, Tables};
 use compare::{bench, load, ratios::Form, table1, tally::Effort};
 use peer::report;
 use peer::sheet::SHEET_ROOM;
@@ -26,8 +26,9 @@ usage: peer compare [--seed S] [--long]   compare every call on random inputs
        peer table1 [--seed S]             work out the paper's Table 1 with the proved route
        peer load [--markdown]             count the routes over each link and from each port with the proved route
                                           (--markdown: print the proved figures of every hall instead)
-       peer failures [--seed S] [--peer]  trace packets around failures with the proved journey (--peer: the peer's),
-                                          beside the paper's Table 2
+       peer failures [--seed S] [--peer] [--strands]
+                                          trace packets around failures with the proved journey (--peer: the peer's),
+                                          beside the paper's Table 2, and around broken strands (--strands: these alone)
        peer trace                         trace the sheet on standard input with the peer
        peer example                       write examples/large.sheet to standard output";
 /// The exit status of a call that the usage does not allow.
@@ -36,11 +37,25 @@ const BAD_USAGE: u8 = 2;
 /// What the command line asks for, with the seed if it names one.
 #[derive(Debug, PartialEq, Eq)]
 enum Work {
-    Compare { seed: Option<u64>, effort: Effort },
-    Bench { seed: Option<u64>, form: Form },
-    Table1 { seed: Option<u64> },
-    Load { form: Form },
-    Failures { seed: Option<u64>, side: Side },
+    Compare {
+        seed: Option<u64>,
+        effort: Effort,
+    },
+    Bench {
+        seed: Option<u64>,
+        form: Form,
+    },
+    Table1 {
+        seed: Option<u64>,
+    },
+    Load {
+        form: Form,
+    },
+    Failures {
+        seed: Option<u64>,
+        side: Side,
+        tables: Tables,
+    },
     Trace,
     Example,
 }
@@ -67,9 +82,8 @@ fn done(work: Work) -> bool {
         }
         Work::Table1 { seed } => table1::run(seed.unwrap_or_else(fresh_seed)),
         Work::Load { form } => load::run(form),
-        Work::Failures { seed, side } => {
-            failures::run(seed.unwrap_or_else(fresh_seed), side);
-            true
+        Work::Failures { seed, side, tables } => {
+            failures::run(seed.unwrap_or_else(fresh_seed), side, tables)
         }
         Work::Trace => traced().is_ok(),
         Work::Example => printed(&example::sheet()).is_ok(),
@@ -83,6 +97,7 @@ fn parse(words: &[String]) -> Option<Work> {
     let mut effort = Effort::Short;
     let mut form = Form::Lines;
     let mut side = Side::Rattle;
+    let mut tables = Tables::All;
     while let Some((option, behind)) = options.split_first() {
         options = match (option.as_str(), behind.split_first()) {
             ("--seed", Some((number, behind))) => {
@@ -97,6 +112,10 @@ fn parse(words: &[String]) -> Option<Work> {
                 side = Side::Peer;
                 behind
             }
+            ("--strands", _) if name == "failures" => {
+                tables = Tables::Strands;
+                behind
+            }
             ("--markdown", _) if name == "bench" || name == "load" => {
                 form = Form::Markdown;
                 behind
@@ -109,7 +128,7 @@ fn parse(words: &[String]) -> Option<Work> {
         "bench" => Some(Work::Bench { seed, form }),
         "table1" => Some(Work::Table1 { seed }),
         "load" if seed.is_none() => Some(Work::Load { form }),
-        "failures" => Some(Work::Failures { seed, side }),
+        "failures" => Some(Work::Failures { seed, side, tables }),
         "trace" if words.len() == 1 => Some(Work::Trace),
         "example" if words.len() == 1 => Some(Work::Example),
         _ => None,
@@ -168,9 +187,23 @@ mod tests {
             form: Form::Markdown,
         };
         assert_eq!(parsed("load --markdown"), Some(table));
-        let failed = |seed, side| Some(Work::Failures { seed, side });
-        assert_eq!(parsed("failures --seed 7"), failed(Some(7), Side::Rattle));
-        assert_eq!(parsed("failures --peer"), failed(None, Side::Peer));
+        let failed = |seed, side, tables| Some(Work::Failures { seed, side, tables });
+        assert_eq!(
+            parsed("failures --seed 7"),
+            failed(Some(7), Side::Rattle, Tables::All)
+        );
+        assert_eq!(
+            parsed("failures --peer"),
+            failed(None, Side::Peer, Tables::All)
+        );
+        assert_eq!(
+            parsed("failures --strands"),
+            failed(None, Side::Rattle, Tables::Strands)
+        );
+        assert_eq!(
+            parsed("failures --strands --peer --seed 7"),
+            failed(Some(7), Side::Peer, Tables::Strands)
+        );
         assert_eq!(parsed("trace"), Some(Work::Trace));
         assert_eq!(parsed("example"), Some(Work::Example));
     }
@@ -192,6 +225,9 @@ mod tests {
             "failures --long",
             "failures --markdown",
             "bench --peer",
+            "bench --strands",
+            "compare --strands",
+            "failures --strands 7",
             "trace --seed 1",
             "example large",
         ];

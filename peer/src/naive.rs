@@ -165,12 +165,39 @@ pub fn next_hop(h: Hall, first: u32, table: &[u8], x: u32, y: u32) -> Option<u32
     })
 }
 
-/// What a literal step works on: the hall, the server itself, its cell's table, and the packet as it came.
+/// The places in the hall table of the codes lent to a step of a server: those of its cell, then those of the far ports above b.
+pub fn step_places(h: Hall, uid: u32) -> Vec<usize> {
+    let t = size(h.n, h.b);
+    let cell = uid / t * t..uid / t * t + t;
+    let mut ports = Vec::new();
+    for server in cell.clone() {
+        ports.extend((0..=h.k).map(|level| (server, level)));
+    }
+    for server in cell {
+        ports.extend((h.b + 1..=h.k).map(|level| (neighbour(h, server, level), level)));
+    }
+    let place = |(server, level)| (server * (h.k + 1) + level) as usize;
+    ports.into_iter().map(place).collect()
+}
+
+/// The table lent to a step of a server, filled from the hall table code by code.
+pub fn step_table(h: Hall, hall_table: &[u8], uid: u32) -> Vec<u8> {
+    let places = step_places(h, uid).into_iter();
+    places.map(|place| hall_table[place]).collect()
+}
+
+/// The bytes of a table lent to a step.
+pub fn step_length(h: Hall) -> usize {
+    (size(h.n, h.b) * (h.k + 1 + h.k - h.b)) as usize
+}
+
+/// What a literal step works on: the hall, the server itself, its cell's table, the far codes, and the packet as it came.
 struct Stand<'a> {
     h: Hall,
     own: u32,
     first: u32,
     table: &'a [u8],
+    far: &'a [u8],
     came: Packet,
 }
 
@@ -184,13 +211,15 @@ struct Work {
 }
 
 /// A literal step: the numbered sentences of docs/RULES.md, each in its place.
-pub fn step(h: Hall, own: u32, came: Packet, table: &[u8]) -> forward::Step {
+pub fn step(h: Hall, own: u32, came: Packet, step_table: &[u8]) -> forward::Step {
     let t = size(h.n, h.b);
+    let (table, far) = step_table.split_at((t * (h.k + 1)) as usize);
     let stand = Stand {
         h,
         own,
         first: own / t * t,
         table,
+        far,
         came,
     };
     let mut work = Work {
@@ -212,7 +241,37 @@ pub fn step(h: Hall, own: u32, came: Packet, table: &[u8]) -> forward::Step {
     stand.sentence_4(work)
 }
 
+/// A literal journey: the table of each step is filled from the hall table.
+pub fn journey(h: Hall, source: u32, packet: Packet, hall_table: &[u8]) -> forward::Journey {
+    let mut answer = forward::Journey {
+        refusal: 0,
+        ending: forward::FORWARDED,
+        links: 0,
+        reroutes: 0,
+        uids: [0; 256],
+    };
+    let (mut uid, mut packet) = (source, packet);
+    loop {
+        answer.uids[answer.links as usize] = uid;
+        let turn = step(h, uid, packet, &step_table(h, hall_table, uid));
+        answer.reroutes += turn.reroutes;
+        if turn.ending != forward::FORWARDED {
+            answer.ending = turn.ending;
+            return answer;
+        }
+        answer.links += 1;
+        (uid, packet) = (turn.next, turn.packet);
+    }
+}
+
 impl Stand<'_> {
+    /// Whether the link of a level above b is usable, from a server of the cell: both its ports have code 1.
+    fn usable_above(&self, uid: u32, level: u32) -> bool {
+        let Hall { k, b, .. } = self.h;
+        let far = (uid - self.first) * (k - b) + level - b - 1;
+        up(self.h, self.first, self.table, uid, level) && self.far[far as usize] == UP
+    }
+
     /// Delivery or a drop, with the packet as it came.
     fn end(&self, ending: u32, work: &Work) -> forward::Step {
         let proxy = if self.came.has_proxy {
@@ -257,7 +316,7 @@ impl Stand<'_> {
             None => goal,
             Some((n1, n2)) => {
                 let level = joint_level(self.h, n1, n2);
-                if !up(self.h, self.first, self.table, n1, level) {
+                if !self.usable_above(n1, level) {
                     return self.reroute(work, above);
                 }
                 if self.own == n1 {
@@ -306,7 +365,7 @@ impl Stand<'_> {
         for level in m..=self.h.k {
             let mut candidates = Vec::new();
             for (p1, &away) in (self.first..).zip(&distance) {
-                if away != NEVER && up(self.h, self.first, self.table, p1, level) {
+                if away != NEVER && self.usable_above(p1, level) {
                     candidates.push((away, p1));
                 }
             }

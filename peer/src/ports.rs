@@ -50,14 +50,30 @@ pub fn step_table(h: Hall, table: &[u8], uid: u32, room: &mut [u8]) -> u32 {
         Err(refusal) => return refusal,
     };
     let part = cell_part(scale, h.k, table, first, h.b);
-    let far_codes = scale.size(h.b) as usize * (h.k - h.b) as usize;
-    let Some(written) = room.get_mut(..part.len() + far_codes) else {
+    let Some(written) = room.get_mut(..part.len() + far_codes(scale, h)) else {
         return refusal::ROOM;
     };
     let (near, far) = written.split_at_mut(part.len());
     near.copy_from_slice(part);
     put_far_codes(scale, h, table, first, far);
     refusal::NONE
+}
+
+/// The two parts of a table lent to a step: the codes of its DCell(b), then those of the far ports; none where its length is wrong.
+#[inline]
+pub(crate) fn step_parts<'a>(
+    scale: &Scale,
+    h: Hall,
+    table: &'a [u8],
+) -> Option<(&'a [u8], &'a [u8])> {
+    let (near, far) = table.split_at_checked(scale.table_length(h.b, h.k))?;
+    (far.len() == far_codes(scale, h)).then_some((near, far))
+}
+
+/// The codes of far ports in a table lent to a step: one for each server of a DCell(b) and each level above b.
+#[inline]
+fn far_codes(scale: &Scale, h: Hall) -> usize {
+    scale.size(h.b) as usize * (h.k - h.b) as usize
 }
 
 /// Fills the room with the codes of the far ports for the DCell(b) that begins at server `first`, which is in one sub-cell of each level.
@@ -282,18 +298,11 @@ mod tests {
     fn each_far_code_is_that_of_the_neighbours_port() {
         let mut random = Random::new(5);
         for h in naive::small_halls() {
-            let ports = h.k as usize + 1;
-            let codes = naive::servers(h) as usize * ports;
+            let codes = naive::servers(h) * (h.k + 1);
             let table: Vec<u8> = (0..codes).map(|_| random.byte()).collect();
             let t = naive::size(h.n, h.b);
             for first in (0..naive::servers(h)).step_by(t as usize) {
-                let mut literal = part(h, &table, first).1.to_vec();
-                for server in first..first + t {
-                    for level in h.b + 1..=h.k {
-                        let far = naive::neighbour(h, server, level) as usize;
-                        literal.push(table[far * ports + level as usize]);
-                    }
-                }
+                let literal = naive::step_table(h, &table, first);
                 let mut room = vec![0; literal.len()];
                 let uid = first + random.below(t);
                 assert_eq!(step_table(h, &table, uid, &mut room), 0);

@@ -67,16 +67,6 @@ mod foreign {
             room: *mut u8,
             length: usize,
         ) -> u32;
-        pub fn calls_step_table(
-            n: u32,
-            k: u32,
-            b: u32,
-            table: *const u8,
-            codes: usize,
-            uid: u32,
-            room: *mut u8,
-            length: usize,
-        ) -> u32;
         pub fn calls_route(
             n: u32,
             k: u32,
@@ -177,6 +167,16 @@ mod foreign {
             b: u32,
             x: u32,
             y: u32,
+            room: *mut u8,
+            length: usize,
+        ) -> u32;
+        pub fn tbexlum_step_table(
+            n: u32,
+            k: u32,
+            b: u32,
+            table: *const u8,
+            codes: usize,
+            uid: u32,
             room: *mut u8,
             length: usize,
         ) -> u32;
@@ -468,7 +468,7 @@ pub fn part(h: Hall, table: &[u8], uid: u32, room: &mut [u8]) -> u32 {
 pub fn step_table(h: Hall, table: &[u8], uid: u32, room: &mut [u8]) -> u32 {
     let (codes, count) = (table.as_ptr(), table.len());
     let (start, length) = (room.as_mut_ptr(), room.len());
-    unsafe { foreign::calls_step_table(h.n, h.k, h.b, codes, count, uid, start, length) }
+    unsafe { foreign::tbexlum_step_table(h.n, h.k, h.b, codes, count, uid, start, length) }
 }
 
 /// Whether a port of a server is up.

@@ -5,7 +5,6 @@ ghost use Rattle.hall.specs.Answers.{sizeOf, sizesOf};
 ghost use Rattle.cells.specs.Answers.{uidOf, tupleOf, cellAround, neighbourOf, linkBetween};
 ghost use Rattle.route.specs.Answers.{routeBetween};
 ghost use Rattle.ports.specs.Answers.{checkOf};
-ghost use Rattle.ends.specs.Answers.{ofStepTable};
 ghost use Rattle.hall.specs.Rooms.{told, written};
 ghost use Rattle.hall.specs.Halls.{hallOf};
 ghost use Rattle.calls_hall.specs.Outcomes.{ofSizes, ofUid, ofTuple, ofCell, ofNeighbour, ofLink, ofRoute, ofPart};
@@ -127,21 +126,6 @@ pub extern "C" fn calls_part(n: u32, k: u32, b: u32, table: &[u8], uid: u32, roo
     let number = ports::part_refusal(Hall { n, k, b }, table, uid);
     let part = ports::part_of(Hall { n, k, b }, table, uid);
     tell_bytes(number, part, room)
-}
-
-#[no_mangle]
-pub extern "C" fn calls_step_table(
-    n: u32,
-    k: u32,
-    b: u32,
-    table: &[u8],
-    uid: u32,
-    room: &mut [u8],
-) -> u32
-    ensures number { λ r. ⌜ r ≡ told (ofStepTable (hallOf n k b) (now (table .entry)) uid) (now (room .entry)) ⌝ }
-    ensures room { λ _. ⌜ now (room .exit) ≡ written (ofStepTable (hallOf n k b) (now (table .entry)) uid) (now (room .entry)) ⌝ }
-{
-    ends::step_table(Hall { n, k, b }, table, uid, room)
 }
 
 #[no_mangle]

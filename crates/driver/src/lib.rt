@@ -1,6 +1,7 @@
-// The calls for a driver in C: header, route and step, on plain numbers and byte slices.
+// The calls for a driver in C: header, route, step and the table of a step, on plain numbers and byte slices.
 ghost use mathlib.Core.Path.{_≡_};
 ghost use Rattle.route.specs.Answers.{routeBetween};
+ghost use Rattle.ends.specs.Answers.{ofStepTable};
 ghost use Rattle.forward.specs.Answers.{stepOf};
 ghost use Rattle.forward.specs.Packets.{packetOf};
 ghost use Rattle.frame.specs.Reading.{readFrame};
@@ -121,7 +122,23 @@ fn wide(x: u8) -> u32
     x as u32
 }
 
-// One forwarding step at a server, over the table of its own DCell(b); `has_proxy` is 0 where there is no proxy.
+// The table that a server's step is lent, from the hall table.
+#[no_mangle]
+pub extern "C" fn tbexlum_step_table(
+    n: u32,
+    k: u32,
+    b: u32,
+    table: &[u8],
+    uid: u32,
+    room: &mut [u8],
+) -> u32
+    ensures number { λ r. ⌜ r ≡ told (ofStepTable (hallOf n k b) (now (table .entry)) uid) (now (room .entry)) ⌝ }
+    ensures room { λ _. ⌜ now (room .exit) ≡ written (ofStepTable (hallOf n k b) (now (table .entry)) uid) (now (room .entry)) ⌝ }
+{
+    ends::step_table(Hall { n, k, b }, table, uid, room)
+}
+
+// One forwarding step at a server, over the table that it is lent; `has_proxy` is 0 where there is no proxy.
 #[no_mangle]
 pub extern "C" fn tbexlum_step(
     n: u32,

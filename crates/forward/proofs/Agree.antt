@@ -3,24 +3,28 @@
 use mathlib.Core.Path.{_≡_, _∙_, ap, fun-ext}
 use mathlib.Core.Bool.{Bool}
 use mathlib.Core.List.{List}
-use Prim.Native.Nat.{ℕ, zero, suc}
+use Prim.Native.Nat.{ℕ, zero, suc, _+_, _≤_, _<_}
 use lib.Dec.{eqb}
-use lib.ListN.{getD}
+use borrow.Author.Tests.{eqb-true}
+use lib.ListN.{length, getD}
 use Rattle.combine.specs.Tests.{pick}
+use Rattle.combine.proofs.Tests.{cases}
 use Rattle.hall.specs.declared.Hall.{Hall}
-use Rattle.ports.specs.Codes.{part, SameUps}
+use Rattle.ports.specs.Codes.{cellLength, part, SameUps}
 use Rattle.ports.proofs.Tables.{up-agrees}
 use Rattle.ports.proofs.Links.{joined-agrees}
-use Rattle.ports.proofs.Runs.{run-agrees}
+use Rattle.ports.proofs.Runs.{take-agrees}
 use Rattle.search.specs.Rounds.{distances}
 use Rattle.local.specs.Lowest.{lowestFrom}
-use Rattle.local.specs.Local.{none, cellSize, linked, distancesFrom, distance, nearer, hop}
+use Rattle.local.specs.Local.{none, cellSize, firstOf, linked, distancesFrom, distance, nearer, hop}
+use Rattle.ends.specs.Tables.{farCode, stepTable, cellPart, farPlace, farIn}
+use Rattle.ends.proofs.Tables.{same-bytes, step-ups}
 use Rattle.forward.specs.declared.Packet.{Packet}
 use Rattle.forward.specs.declared.Step.{Step}
 use Rattle.forward.specs.Packets.{forwarded, tidied}
 use Rattle.forward.specs.Seen.{Seen, usable, seen}
 use Rattle.forward.specs.Steps.{stepOn, step}
-use Rattle.forward.specs.Journeys.{Trip, stepAt, endsAt, goesOn, tripOn, trip}
+use Rattle.forward.specs.Journeys.{stepAt, endsAt, goesOn, tripOn, trip}
 
 -- two tables of which a step sees the same
 pub record SameSeen (s z : Seen) : Type 0 where
@@ -58,27 +62,47 @@ module _ (h : Hall) (a b : List ℕ) (same : SameUps a b) where
       ap (λ (p : ℕ → Bool). lowestFrom p (cellSize h) 0)
       (fun-ext (λ z. rw (distances-same y, ap (λ (l : ℕ → ℕ → Bool). l x z) linked-agree)))
 
-  pub usable-same : (i place : ℕ) → usable h a i place ≡ usable h b i place
-  unfolding usable
-  usable-same i place = up-agrees h a b same place i
+  usable-same : (i place : ℕ) → usable h a i place ≡ usable h b i place
+  unfolding usable farIn SameUps
+  usable-same i place = rw (up-agrees h a b same place i, same (farPlace h place i))
+
+module _ (h : Hall) (a b : List ℕ) (same : SameUps a b) where
+  near-same : SameUps (cellPart h a) (cellPart h b)
+  unfolding cellPart
+  near-same = take-agrees (cellLength h (h .b)) a b same
 
   pub seen-agree : SameSeen (seen h a) (seen h b)
-  seen-agree = record { distance = distance-same; hop = hop-same; usable = usable-same }
+  seen-agree = record {
+    distance = distance-same h (cellPart h a) (cellPart h b) near-same;
+    hop = hop-same h (cellPart h a) (cellPart h b) near-same;
+    usable = usable-same h a b same;
+  }
 
   pub step-agrees : (me : ℕ) (p : Packet) → step h a me p ≡ step h b me p
   step-agrees me p = step-same h (seen h a) (seen h b) me (tidied p) seen-agree
 
-module _ (h : Hall) (a b : List ℕ) (same : SameUps a b) where
-  at-agrees : (me : ℕ) (p : Packet) → stepAt h a me p ≡ stepAt h b me p
-  at-agrees me p = step-agrees h (part h a me) (part h b me) (run-agrees h a b (h .b) me same) me p
-
-  trip-on-agrees : (f me : ℕ) (p : Packet) → tripOn f h a me p ≡ tripOn f h b me p
+-- two steps that agree, wherever a packet that one of them forwards may come, make the same journey
+module _ (f g : ℕ → Packet → Step) (I : ℕ → Packet → Type 0) (agree : (me : ℕ) (p : Packet) → I me p → f me p ≡ g me p)
+    (keeps : (me : ℕ) (p : Packet) → I me p → g me p .ending ≡ forwarded → I (g me p .next) (g me p .packet)) where
+  pub trip-on-same : (ttl me : ℕ) (p : Packet) → I me p → tripOn ttl f me p ≡ tripOn ttl g me p
   unfolding tripOn
-  trip-on-agrees zero me p = ap (endsAt me) (at-agrees me p)
-  trip-on-agrees (suc f) me p =
-      ap (λ (o : Step). pick (eqb (o .ending) forwarded) (goesOn me o (tripOn f h a (o .next) (o .packet))) (endsAt me o)) (at-agrees me p)
-      ∙ ap (λ (rest : Trip). pick (eqb (stepAt h b me p .ending) forwarded) (goesOn me (stepAt h b me p) rest) (endsAt me (stepAt h b me p)))
-      (trip-on-agrees f (stepAt h b me p .next) (stepAt h b me p .packet))
+  trip-on-same zero me p i = ap (endsAt me) (agree me p i)
+  trip-on-same (suc ttl) me p i =
+      ap (λ (o : Step). pick (eqb (o .ending) forwarded) (goesOn me o (tripOn ttl f (o .next) (o .packet))) (endsAt me o)) (agree me p i)
+      ∙ cases (eqb (g me p .ending) forwarded)
+      (λ e. rw e (ap (goesOn me (g me p)) (trip-on-same ttl (g me p .next) (g me p .packet) (keeps me p i (eqb-true (g me p .ending) forwarded e)))))
+      (λ e. rw e)
 
-  pub trip-agrees : (me : ℕ) (p : Packet) → trip h a me p ≡ trip h b me p
-  trip-agrees me p = trip-on-agrees (p .ttl) me p
+-- two hall tables that agree on the bytes of a server's table give it the same step; so do two that are up at the same of them
+pub same-step : (h : Hall) (a b : List ℕ) (me : ℕ) (p : Packet) → part h a me ≡ part h b me
+    → ((place i : ℕ) → place < cellSize h → h .b < i → i ≤ h .k → farCode h a (firstOf h me + place) i ≡ farCode h b (firstOf h me + place) i)
+    → stepAt h a me p ≡ stepAt h b me p
+same-step h a b me p near far = ap (λ (l : List ℕ). step h l me p) (same-bytes h a b me near far)
+
+pub same-ups-step : (h : Hall) (a b : List ℕ) (me : ℕ) (p : Packet) → SameUps (stepTable h a me) (stepTable h b me) → stepAt h a me p ≡ stepAt h b me p
+same-ups-step h a b me p same = step-agrees h (stepTable h a me) (stepTable h b me) same me p
+
+pub trip-agrees : (h : Hall) (a b : List ℕ) → length a ≡ length b → SameUps a b → (me : ℕ) (p : Packet) → trip h a me p ≡ trip h b me p
+trip-agrees h a b long same me p =
+    trip-on-same (λ u q. stepAt h a u q) (λ u q. stepAt h b u q) (λ u q. Unit {0}) (λ u q i. same-ups-step h a b u q (step-ups h a b u long same)) (λ u q i e. tt)
+    (p .ttl) me p tt

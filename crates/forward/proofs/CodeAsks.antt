@@ -12,15 +12,16 @@ use Rattle.hall.specs.declared.Hall.{Hall}
 use Rattle.hall.specs.Halls.{valid, servers, asksHall}
 use Rattle.hall.specs.Refusals.{refusal, inOrder, bad-length, most-retry}
 use Rattle.hall.proofs.Asks.{refusal-in-order, first-refuses, first-passes, unrefused-hold}
-use Rattle.ports.specs.Codes.{tableLength, cellLength}
-use Rattle.ports.specs.Answers.{asksTable, asksCell}
+use Rattle.ports.specs.Codes.{tableLength}
+use Rattle.ports.specs.Answers.{asksTable}
+use Rattle.ends.specs.Tables.{stepLength}
 use Rattle.hall.proofs.Growth.{no-servers, some-servers, valid-servers}
 use Rattle.forward.specs.declared.Packet.{Packet}
 use Rattle.forward.specs.declared.Step.{Step}
 use Rattle.forward.specs.declared.Journey.{Journey}
 use Rattle.forward.specs.Steps.{step}
 use Rattle.forward.specs.Journeys.{trip}
-use Rattle.forward.specs.Answers.{asksPacket, refusedStep, stepOf, journeyFrom, refusedJourney, journeyOf}
+use Rattle.forward.specs.Answers.{asksLent, asksPacket, refusedStep, stepOf, journeyFrom, refusedJourney, journeyOf}
 use Rattle.forward.specs.Inside.{Here, Sound, Departing, asksBelow}
 
 -- the tests of a packet, in order
@@ -93,16 +94,16 @@ module _ (h : Hall) (count : ℕ) (e : count ≡ pick (valid h) (servers h) 0) (
       q ∙ (rw (b, valid-servers h count e v)) ∙ sym (first-passes (asksHall h) _ refl v)
 
 -- what a step answers behind its refusals
-module _ (h : Hall) (me : ℕ) (p : Packet) (table : List ℕ) (r : ℕ) (e : r ≡ refusal (asksHall h ∷ asksCell h table ∷ asksPacket h me p)) where
+module _ (h : Hall) (me : ℕ) (p : Packet) (table : List ℕ) (r : ℕ) (e : r ≡ refusal (asksHall h ∷ asksLent h table ∷ asksPacket h me p)) where
   pub step-refused : (r ≡ 0 → ⊥) → (o : Step) → o ≡ refusedStep r → o ≡ stepOf h me p table
   step-refused ne o q = rw (← e, ne-eqb r 0 ne) q
 
   pub step-answered : r ≡ 0 → (o : Step) → o ≡ step h table me p → o ≡ stepOf h me p table
   step-answered z o q = rw (← e, z) q
 
-  pub step-sound : r ≡ 0 → Here h table me × Sound h p
+  pub step-sound : r ≡ 0 → Here h false table me × Sound h p
   step-sound z =
-      let u = unrefused h (cellLength h (h .b)) table me p (sym e ∙ z) in
+      let u = unrefused h (stepLength h) table me p (sym e ∙ z) in
       (record { sound = u .sound; long = u .long; fits = u .fits }, u .packet)
 
 -- what a journey answers behind its refusals

@@ -27,7 +27,9 @@ use Rattle.forward.specs.declared.Candidate.{Candidate}
 use Rattle.forward.specs.declared.Candidate.the-variants.{At, Nothing}
 use Rattle.forward.specs.Seen.{Seen}
 use Rattle.forward.specs.Proxies.{isCandidate, bestBelow, orElse, firstFound, choice}
-use Rattle.forward.specs.Inside.{Here}
+use Rattle.ends.specs.Tables.{cellPart}
+use Rattle.forward.specs.Inside.{Here, lent}
+use Rattle.forward.proofs.CodeTables.{own-long}
 use Rattle.forward.proofs.Chosen.{Nearest, Best, found, missing, best-found}
 
 -- the first that a search by distance and then by uid meets is the best of its level
@@ -131,25 +133,31 @@ unfolding choice
 choice-whole h s me m = refl
 
 -- the record of distances from a server of a sound hall
-module _ (h : Hall) (table : List ℕ) (me : ℕ) (a : Here h table me) (from : Distances) (e : from ≡ distancesOf h me table) where
-  whole : from ≡ record { refusal = 0; origin = me; count = cellSize h; distance = recordFrom h table (placeOf h me) }
+module _ {whole : Bool} (h : Hall) (table : List ℕ) (me : ℕ) (a : Here h whole table me) (part : List ℕ) (o : part ≡ cellPart h (lent h whole table me))
+    (from : Distances) (e : from ≡ distancesOf h me part) where
+  abbrev own : List ℕ
+  own = cellPart h (lent h whole table me)
+
+  told : from ≡ record { refusal = 0; origin = me; count = cellSize h; distance = recordFrom h own (placeOf h me) }
   unfolding refusal
-  whole = e ∙ rw (a .sound, eq-eqb (length table) (cellLength h (h .b)) (a .long), lt-ltb me (servers h) (a .fits))
+  told =
+      e ∙ ap (distancesOf h me) o
+      ∙ rw (a .sound, eq-eqb (length own) (cellLength h (h .b)) (own-long h whole table me a), lt-ltb me (servers h) (a .fits))
 
   pub count-is : from .count ≡ cellSize h
-  count-is = ap (λ (d : Distances). d .count) whole
+  count-is = ap (λ (d : Distances). d .count) told
 
   pub count-fits : from .count ≤ 72
   count-fits = omega (arith, count-is, size-fits h (valid-known h (a .sound)))
 
-  pub distance-is : (place : ℕ) → place < from .count → getD (from .distance) place 0 ≡ distance h table (placeOf h me) place
+  pub distance-is : (place : ℕ) → place < from .count → getD (from .distance) place 0 ≡ distance h (cellPart h (lent h whole table me)) (placeOf h me) place
   unfolding distance
   distance-is place l =
-      ap (λ (d : Distances). getD (d .distance) place 0) whole ∙ record-at h table (placeOf h me) place (omega (arith, count-is))
+      ap (λ (d : Distances). getD (d .distance) place 0) told ∙ record-at h own (placeOf h me) place (omega (arith, count-is))
 
-  pub distance-small : (place : ℕ) → place < from .count → distance h table (placeOf h me) place ≤ none
+  pub distance-small : (place : ℕ) → place < from .count → distance h (cellPart h (lent h whole table me)) (placeOf h me) place ≤ none
   distance-small place l =
       let v = valid-known h (a .sound) in
       let f = size-fits h v in
-      ⊎-elim (λ (q : distance h table (placeOf h me) place ≡ none). omega arith) (λ (q : distance h table (placeOf h me) place < cellSize h). omega arith)
-      (local-bounded h table v (placeOf h me) place (place-fits h v me) (omega (arith, count-is)))
+      ⊎-elim (λ (q : distance h own (placeOf h me) place ≡ none). omega arith) (λ (q : distance h own (placeOf h me) place < cellSize h). omega arith)
+      (local-bounded h own v (placeOf h me) place (place-fits h v me) (omega (arith, count-is)))

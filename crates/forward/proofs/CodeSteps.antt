@@ -12,7 +12,7 @@ use Rattle.combine.specs.Tests.{pick, both}
 use Rattle.combine.proofs.Tests.{cases, never, both-left, both-right}
 use Rattle.hall.specs.declared.Hall.{Hall}
 use Rattle.hall.specs.Cells.{cell, same, neighbour}
-use Rattle.hall.specs.Halls.{top, servers, largest}
+use Rattle.hall.specs.Halls.{valid, top, servers, largest}
 use Rattle.hall.proofs.Growth.{Valid, valid-known, uid-fits}
 use Rattle.cells.specs.declared.Neighbour.{Neighbour}
 use Rattle.cells.specs.Answers.{neighbourOf}
@@ -153,31 +153,24 @@ pub first-of : (h : Hall) (me count : ℕ) → count ≡ cellSize h → me - me 
 unfolding firstOf cell cellSize
 first-of h me count e = rw (← e) (omega (arith, div-add-mod' me count))
 
-module _ (h : Hall) (me place level : ℕ) (a : Placed h me place level) (count : ℕ) (e : count ≡ cellSize h) where
-  pub uid-fits-in : me - me % count + place < largest
-  uid-fits-in =
-      let v = valid-known h (a .sound) in
-      rw (first-of h me count e) (uid-fits h v (firstOf h me + place) (uid-within h me place v (a .fits) (a .inside)))
+pub uid-fits-in : (h : Hall) (me place count : ℕ) → valid h ≡ true → me < servers h → place < cellSize h → count ≡ cellSize h → me - me % count + place < largest
+uid-fits-in h me place count sound fits inside e =
+    let v = valid-known h sound in
+    rw (first-of h me count e) (uid-fits h v (firstOf h me + place) (uid-within h me place v fits inside))
 
-  pub proxy-is : (r : Neighbour) → r ≡ neighbourOf h (me - me % count + place) level → r .uid ≡ neighbour (h .n) (level - 1) (firstOf h me + place)
-  proxy-is r q =
-      let l = uid-within h me place (valid-known h (a .sound)) (a .fits) (a .inside) in
-      rw (q, first-of h me count e) (neighbour-told h (firstOf h me + place) level (a .sound) l (a .low) (a .high))
+pub proxy-is : (h : Hall) (me place level : ℕ) → Placed h me place level → (u : ℕ) → u ≡ firstOf h me + place → (r : Neighbour) → r ≡ neighbourOf h u level
+    → r .uid ≡ neighbour (h .n) (level - 1) (firstOf h me + place)
+proxy-is h me place level a u e r q =
+    let b = a .above in
+    let l = uid-within h me place (valid-known h (b .sound)) (a .fits) (b .inside) in
+    rw (q, e) (neighbour-told h (firstOf h me + place) level (b .sound) l (omega (arith, b .low)) (b .high))
 
-module _ (h : Hall) (table : List ℕ) (me : ℕ) (p : Packet) where
-  -- a packet that stands at a server has a way before it
-  goal-fits : Standing h table me p → goal p < servers h
-  unfolding goal
-  goal-fits a = cases (p .«has_proxy») (λ q. rw q (a .packet .proxy-fits q)) (λ q. rw q (a .packet .dst-fits))
+module _ (h : Hall) (me : ℕ) where
+  -- what lies before a packet on the way to its goal
+  pub looked : (p : Packet) (s : Seen) (dst to : ℕ) (o : Outlook) → to ≡ goal p → o ≡ outlookOf h s me dst to → o ≡ outlookOf h s me dst (goal p)
+  looked p s dst to o e f = f ∙ ap (outlookOf h s me dst) e
 
-  pub stands-ahead : Standing h table me p → (to : ℕ) → to ≡ goal p → Ahead h table me to (firstLink h me to)
-  stands-ahead a to e = record { here = a .here; fits = rw e (goal-fits a); apart = rw e (a .goal-apart); first = refl }
-
-  -- what lies before it on the way there
-  pub looked : (s : Seen) (dst to : ℕ) (o : Outlook) → to ≡ goal p → o ≡ outlookOf h s me dst to → o ≡ outlookOf h s me dst (goal p)
-  looked s dst to o e f = f ∙ ap (outlookOf h s me dst) e
-
-  -- blocked, it is so at the first link towards its goal
+  -- blocked, a packet is so at the first link towards its goal
   blocked-by : (dst : ℕ) (first : Crossing) (w : Way) (link : Crossing) → outlookBy h me dst first w ≡ Blocked link → link ≡ first
   blocked-by dst first (To u) link e = absurd (let w : _≡_ {A = ℕ} 0 1 = cc in omega arith)
   blocked-by dst first Closed link e = cc
@@ -186,16 +179,25 @@ module _ (h : Hall) (table : List ℕ) (me : ℕ) (p : Packet) where
       (λ n. let f : NoRoute ≡ Blocked link = rw n at e in absurd (let w : _≡_ {A = ℕ} 0 1 = cc in omega arith))
       (λ n. let f : Blocked first ≡ Blocked link = rw n at e in cc)
 
-  pub stands-blocked : Standing h table me p → (s : Seen) (dst : ℕ) (o : Outlook) → o ≡ outlookOf h s me dst (goal p)
-      → (link : Crossing) → o ≡ Blocked link → Stopped h table me link p
+module _ {whole : Bool} (h : Hall) (table : List ℕ) (me : ℕ) (p : Packet) where
+  -- a packet that stands at a server has a way before it
+  goal-fits : Standing h whole table me p → goal p < servers h
+  unfolding goal
+  goal-fits a = cases (p .«has_proxy») (λ q. rw q (a .packet .proxy-fits q)) (λ q. rw q (a .packet .dst-fits))
+
+  pub stands-ahead : Standing h whole table me p → (to : ℕ) → to ≡ goal p → Ahead h whole table me to (firstLink h me to)
+  stands-ahead a to e = record { here = a .here; fits = rw e (goal-fits a); apart = rw e (a .goal-apart); first = refl }
+
+  pub stands-blocked : Standing h whole table me p → (s : Seen) (dst : ℕ) (o : Outlook) → o ≡ outlookOf h s me dst (goal p)
+      → (link : Crossing) → o ≡ Blocked link → Stopped h whole table me link p
   unfolding outlookOf
   stands-blocked a s dst o is link e = record {
     standing = a;
-    first = blocked-by dst (firstLink h me (goal p)) (wayOver h s me (goal p) (firstLink h me (goal p))) link (sym is ∙ e);
+    first = blocked-by h me dst (firstLink h me (goal p)) (wayOver h s me (goal p) (firstLink h me (goal p))) link (sym is ∙ e);
   }
 
-  module _ (link : Crossing) (a : Stopped h table me link p) where
-    stand : Standing h table me p
+  module _ (link : Crossing) (a : Stopped h whole table me link p) where
+    stand : Standing h whole table me p
     stand = a .standing
 
     v : Valid h
@@ -207,8 +209,11 @@ module _ (h : Hall) (table : List ℕ) (me : ℕ) (p : Packet) where
     pub level-low : (n1 n2 m : ℕ) → link ≡ Link n1 n2 m → m ≤ top
     level-low n1 n2 m e = let k = link-of e in omega (arith, k .level, k .high, v .k-high)
 
+    pub level-above : (n1 n2 m : ℕ) → link ≡ Link n1 n2 m → (more level : ℕ) → level ≡ m + more → h .b < level
+    level-above n1 n2 m e more level l = let k = link-of e in omega (arith, k .level, k .low)
+
     -- with one retry less it is stopped there too
-    pub stopped-retried : (q : Packet) → q ≡ retried (p .retry - 1) p → Stopped h table me link q
+    pub stopped-retried : (q : Packet) → q ≡ retried (p .retry - 1) p → Stopped h whole table me link q
     unfolding goal
     stopped-retried q low = rw low (record {
       standing = record {
@@ -226,7 +231,7 @@ module _ (h : Hall) (table : List ℕ) (me : ℕ) (p : Packet) where
     })
 
     -- without its proxy it still stands there
-    stands-cleared : (r : Packet) → r ≡ cleared p → Standing h table me r
+    stands-cleared : (r : Packet) → r ≡ cleared p → Standing h whole table me r
     unfolding goal
     stands-cleared r e = rw e (record {
       here = stand .here;
@@ -258,10 +263,13 @@ module _ (h : Hall) (table : List ℕ) (me : ℕ) (p : Packet) where
           }
 
       pub placed : Placed h me p1 i
-      placed = record { sound = stand .here .sound; fits = stand .here .fits; inside = suits .below; low = omega (arith, suits .low); high = suits .high }
+      placed = record {
+        above = record { sound = stand .here .sound; inside = suits .below; low = suits .low; high = suits .high };
+        fits = stand .here .fits;
+      }
 
       -- and with a new one
-      stands-proxied : (r : Packet) → r ≡ proxied (neighbour (h .n) (i - 1) (firstOf h me + p1)) p → Standing h table me r
+      stands-proxied : (r : Packet) → r ≡ proxied (neighbour (h .n) (i - 1) (firstOf h me + p1)) p → Standing h whole table me r
       unfolding goal
       stands-proxied r y =
           let b = stand .here .sound in
@@ -282,17 +290,17 @@ module _ (h : Hall) (table : List ℕ) (me : ℕ) (p : Packet) where
     module _ (s : Seen) (arrived : Bool) (r : Packet) where
       by-found : (n1 n2 m : ℕ) → link ≡ Link n1 n2 m
           → (found : Candidate) → found ≡ choice h s (placeOf h me) (m + pick (both arrived (ltb m (h .k))) 1 0)
-          → turnBy h me p found ≡ Again r → Standing h table me r
+          → turnBy h me p found ≡ Again r → Standing h whole table me r
       by-found n1 n2 m e candidate.Nothing c t = absurd (let w : _≡_ {A = ℕ} 0 1 = cc in omega arith)
       by-found n1 n2 m e (candidate.At p1 i) c t =
           stands-proxied n1 n2 m e arrived (m + pick (both arrived (ltb m (h .k))) 1 0) refl s (candidate.At p1 i) c p1 i refl r (again-one t)
 
-      by-link : (l : Crossing) → link ≡ l → turnOf h s me l p arrived ≡ Again r → Standing h table me r
+      by-link : (l : Crossing) → link ≡ l → turnOf h s me l p arrived ≡ Again r → Standing h whole table me r
       unfolding turnOf
       by-link Nothing e t = stands-cleared r (again-one t)
       by-link (Link n1 n2 m) e t = by-found n1 n2 m e (choice h s (placeOf h me) (m + pick (both arrived (ltb m (h .k))) 1 0)) refl t
 
-      pub stands-again : turnOf h s me link p arrived ≡ Again r → Standing h table me r
+      pub stands-again : turnOf h s me link p arrived ≡ Again r → Standing h whole table me r
       stands-again = by-link link refl
 
 -- a packet that nothing refuses, tidied
@@ -307,8 +315,8 @@ module _ (h : Hall) (packet p : Packet) (is : p ≡ tidied packet) where
         retry-fits = a .retry-fits;
       }))
 
-  module _ (table : List ℕ) (me : ℕ) (a : Here h table me) (b : Sound h packet) (far : me ≡ p .dst → ⊥) (live : p .ttl ≡ 0 → ⊥) where
-    pub stands-arrived : (q : Packet) → q ≡ cleared p → Standing h table me q
+  module _ {whole : Bool} (table : List ℕ) (me : ℕ) (a : Here h whole table me) (b : Sound h packet) (far : me ≡ p .dst → ⊥) (live : p .ttl ≡ 0 → ⊥) where
+    pub stands-arrived : (q : Packet) → q ≡ cleared p → Standing h whole table me q
     unfolding goal
     stands-arrived q e =
         let c = tidied-sound b in
@@ -327,7 +335,7 @@ module _ (h : Hall) (packet p : Packet) (is : p ≡ tidied packet) where
         (λ q. rw q (λ z. let w : eqb (p .proxy) me ≡ false = rw q at e in never (eq-eqb (p .proxy) me z) w))
         (λ q. rw q (λ z. far (sym z)))
 
-    pub stands-set-out : (arrived : Bool) → arrived ≡ isArrived me p → arrived ≡ false → Standing h table me p
+    pub stands-set-out : (arrived : Bool) → arrived ≡ isArrived me p → arrived ≡ false → Standing h whole table me p
     stands-set-out arrived e f = record {
       here = a;
       packet = tidied-sound b;

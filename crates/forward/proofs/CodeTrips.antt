@@ -11,16 +11,12 @@ use borrow.Author.Tests.{eq-eqb, ne-eqb}
 use Rattle.hall.specs.Refusals.{most-retry}
 use Rattle.hall.specs.declared.Hall.{Hall}
 use Rattle.hall.proofs.Growth.{valid-known}
-use Rattle.ports.specs.Codes.{part}
-use Rattle.ports.specs.Answers.{partOf}
-use Rattle.ports.proofs.Parts as parts
-use Rattle.ports.proofs.Runs.{length-run}
 use Rattle.local.specs.Local.{linked}
+use Rattle.ends.specs.Tables.{stepTable, cellPart}
 use Rattle.forward.specs.declared.Packet.{Packet}
 use Rattle.forward.specs.declared.Step.{Step}
 use Rattle.forward.specs.declared.Journey.{Journey}
 use Rattle.forward.specs.Packets.{forwarded, tidied}
-use Rattle.forward.specs.Steps.{step}
 use Rattle.forward.specs.Journeys.{Trip, stepAt, endsAt, goesOn, tripOn, trip, sight}
 use Rattle.forward.specs.Answers.{most-passed, passed, journeyFrom}
 use Rattle.forward.specs.Inside.{Here, Sound, Departing}
@@ -31,26 +27,9 @@ use Rattle.forward.proofs.Sight.{seen-links}
 use Rattle.forward.proofs.CodeSteps.{tidied-sound}
 
 module _ (h : Hall) (table : List ℕ) (me : ℕ) (p : Packet) (a : Departing h table me p) where
-  known : parts.Sound h table me
-  known = record { is-valid = a .sound; long = a .long; below = a .fits }
-
-  part-whole : partOf h table me ≡ part h table me
-  part-whole = rw (← parts.part-good h table me (a .sound) (a .long) (a .fits))
-
-  -- the step of a server of the hall, over the part that it is handed
-  module _ (lent : List ℕ) (e : lent ≡ partOf h table me) where
-    pub part-here : Here h lent me × Sound h p
-    part-here = (
-      record {
-        sound = a .sound;
-        long = ap length (e ∙ part-whole) ∙ length-run h table me (h .b) known (valid-known h (a .sound) .b-low);
-        fits = a .fits;
-      },
-      a .packet,
-    )
-
-    pub step-is : (o : Step) → o ≡ step h lent me p → o ≡ stepAt h table me p
-    step-is o q = q ∙ ap (λ (l : List ℕ). step h l me p) (e ∙ part-whole)
+  -- the step of a server of the hall has the hall table
+  pub here-whole : Here h true table me × Sound h p
+  here-whole = (record { sound = a .sound; long = a .long; fits = a .fits }, a .packet)
 
   module _ (o : Step) (q : o ≡ stepAt h table me p) where
     pub step-few : o .reroutes ≤ most-retry
@@ -68,7 +47,7 @@ module _ (h : Hall) (table : List ℕ) (me : ℕ) (p : Packet) (a : Departing h 
         stops : eqb (stepAt h table me p .ending) forwarded ≡ false
         stops = ne-eqb (stepAt h table me p .ending) forwarded (λ z. ne (ap (λ (s : Step). s .ending) q ∙ z))
 
-        go : (f : ℕ) → tripOn f h table me p ≡ endsAt me o
+        go : (f : ℕ) → tripOn f (λ u r. stepAt h table u r) me p ≡ endsAt me o
         go zero = rw q
         go (suc f) = rw (q, stops)
 
@@ -84,14 +63,14 @@ module _ (h : Hall) (table : List ℕ) (me : ℕ) (p : Packet) (a : Departing h 
       unfolding tripOn
       trip-goes = go (p .ttl) (sym ttl-falls)
         where
-          go : (f : ℕ) → f ≡ o .packet .ttl + 1 → tripOn f h table me p ≡ goesOn me o (tripOn (o .packet .ttl) h table (o .next) (o .packet))
+          go : (f : ℕ) → f ≡ o .packet .ttl + 1 → tripOn f (λ u r. stepAt h table u r) me p ≡ goesOn me o (trip h table (o .next) (o .packet))
           go zero e = absurd (omega arith)
           go (suc f) e = let g : f ≡ o .packet .ttl = omega arith in rw (eq-eqb (stepAt h table me p .ending) forwarded forwards, ← q, g)
 
       pub departs-again : Departing h table (o .next) (o .packet)
       departs-again =
           let s = tidied-sound h p (tidied p) refl (a .packet) in
-          let f = step-forwards h (sight h table me) (λ x w. linked h (part h table me) x w ≡ true) (seen-links h (part h table me) (valid-known h (a .sound)))
+          let f = step-forwards h (sight h table me) (λ x w. linked h (cellPart h (stepTable h table me)) x w ≡ true) (seen-links h (stepTable h table me) (valid-known h (a .sound)))
           (a .sound) me (tidied p) (a .fits) (record { dst-in = s .dst-fits; proxy-in = s .proxy-fits }) forwards in
           let g = step-sends h table me p forwards in
           rw q (record {

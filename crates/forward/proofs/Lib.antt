@@ -9,6 +9,9 @@ pub mod Links
 pub mod Hops
 pub mod Reroutes
 pub mod Sight
+pub mod Asked
+pub mod Before
+pub mod CodeTables
 pub mod CodeWays
 pub mod CodeChoice
 pub mod CodeAsks

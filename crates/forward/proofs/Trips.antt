@@ -49,12 +49,12 @@ module _ (h : Hall) (table : List ℕ) where
         spared = r .spared;
       }
 
-  trip-on : (f : ℕ) (me : ℕ) (p : Packet) → p .ttl ≡ f → Travels h table me p (tripOn f h table me p)
+  trip-on : (f : ℕ) (me : ℕ) (p : Packet) → p .ttl ≡ f → Travels h table me p (tripOn f (λ u q. stepAt h table u q) me p)
   unfolding tripOn
   trip-on zero me p e = last-step {me = me} {p = p} (λ (q : stepAt h table me p .ending ≡ forwarded). omega (arith, step-sends me p q .ttl))
   trip-on (suc f) me p e =
       pick-ways (Travels h table me p) (eqb (stepAt h table me p .ending) forwarded)
-      (goesOn me (stepAt h table me p) (tripOn f h table (stepAt h table me p .next) (stepAt h table me p .packet)))
+      (goesOn me (stepAt h table me p) (tripOn f (λ u q. stepAt h table u q) (stepAt h table me p .next) (stepAt h table me p .packet)))
       (endsAt me (stepAt h table me p))
       (λ q.
       let w = eqb-true (stepAt h table me p .ending) forwarded q in

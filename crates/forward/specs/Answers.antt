@@ -1,15 +1,16 @@
 -- What the calls for a step and a journey answer.
--- Sections "One forwarding step" and "Refusal numbers".
+-- Sections "One forwarding step" and "Refusal numbers"; request K3.
 use mathlib.Core.Bool.{not}
 use mathlib.Core.List.{List, [], _∷_, _++_}
 use Prim.Native.Nat.{ℕ, _-_}
-use lib.Dec.{leb, ltb}
+use lib.Dec.{eqb, leb, ltb}
 use lib.ListN.{length, replicate}
 use Rattle.combine.specs.Tests.{either}
 use Rattle.hall.specs.declared.Hall.{Hall}
-use Rattle.hall.specs.Refusals.{Ask, refusal, answered, bad-uid, bad-retry, most-retry}
+use Rattle.hall.specs.Refusals.{Ask, refusal, answered, bad-uid, bad-length, bad-retry, most-retry}
 use Rattle.hall.specs.Halls.{servers, asksHall, asksUid}
-use Rattle.ports.specs.Answers.{asksTable, asksCell}
+use Rattle.ports.specs.Answers.{asksTable}
+use Rattle.ends.specs.Tables.{stepLength}
 use Rattle.forward.specs.declared.Packet.{Packet}
 use Rattle.forward.specs.declared.Step.{Step}
 use Rattle.forward.specs.declared.Journey.{Journey}
@@ -20,6 +21,10 @@ use Rattle.forward.specs.Journeys.{Trip, trip}
 -- the most uids that a journey passes
 abbrev pub most-passed : ℕ
 most-passed = 256
+
+-- the table that a step is lent has its length
+abbrev pub asksLent : Hall → List ℕ → Ask
+asksLent h lent = (bad-length, eqb (length lent) (stepLength h))
 
 -- a proxy, if there is one, is a server of the hall
 abbrev pub asksProxy : Hall → Packet → Ask
@@ -40,11 +45,11 @@ noPacket = unproxied 0 0 0
 abbrev pub refusedStep : ℕ → Step
 refusedStep number = record { refusal = number; ending = 0; next = 0; packet = noPacket; reroutes = 0 }
 
--- one step at a server, over the lent table of its own DCell(b)
+-- one step at a server, over the table that it is lent
 abbrev pub stepOf : Hall → ℕ → Packet → List ℕ → Step
-stepOf h me p table =
-    answered (refusal (asksHall h ∷ asksCell h table ∷ asksPacket h me p))
-    (step h table me p)
+stepOf h me p lent =
+    answered (refusal (asksHall h ∷ asksLent h lent ∷ asksPacket h me p))
+    (step h lent me p)
     refusedStep
 
 -- the uids passed, zeros behind them

@@ -1,5 +1,5 @@
 -- What the functions inside a step ask and answer, behind the refusals.
--- Section "One forwarding step".
+-- Section "One forwarding step"; request K3.
 use mathlib.Core.Path.{_≡_}
 use mathlib.Core.Bool.{Bool, true, not}
 use mathlib.Core.List.{List, [], _∷_}
@@ -11,11 +11,12 @@ use Rattle.hall.specs.declared.Hall.{Hall}
 use Rattle.hall.specs.Cells.{same, neighbour}
 use Rattle.hall.specs.Halls.{valid, servers}
 use Rattle.hall.specs.Refusals.{Ask, bad-uid, most-retry}
-use Rattle.ports.specs.Codes.{tableLength, cellLength}
+use Rattle.ports.specs.Codes.{tableLength}
 use Rattle.route.specs.declared.Crossing.{Crossing}
 use Rattle.route.specs.declared.Crossing.the-variants.{Link, Nothing}
 use Rattle.route.specs.Answers.{firstLink}
 use Rattle.local.specs.Local.{none, cellSize, placeOf, firstOf}
+use Rattle.ends.specs.Tables.{stepLength, stepTable}
 use Rattle.forward.specs.declared.Packet.{Packet}
 use Rattle.forward.specs.declared.Way.{Way}
 use Rattle.forward.specs.declared.Way.the-variants.{To, Closed, Unreached}
@@ -29,6 +30,14 @@ use Rattle.forward.specs.Packets.{cleared, proxied, goal}
 use Rattle.forward.specs.Seen.{Seen}
 use Rattle.forward.specs.Proxies.{choice}
 use Rattle.forward.specs.Answers.{asksRetry}
+
+-- the code of a step has either the table that the step is lent or, on a journey, the whole hall table: what the step is lent by it, and its
+-- length
+abbrev pub lent : Hall → Bool → List ℕ → ℕ → List ℕ
+lent h whole table me = pick whole (stepTable h table me) table
+
+abbrev pub lentLength : Hall → Bool → ℕ
+lentLength h whole = pick whole (tableLength h) (stepLength h)
 
 -- the way to a local target: its local next hop where it can be reached
 unfoldable pub wayTo : Hall → Seen → ℕ → ℕ → Way
@@ -68,22 +77,22 @@ asksBelow count me p =
     (bad-uid, ltb me count) ∷ (bad-uid, ltb (p .dst) count)
     ∷ (bad-uid, either (not (p .«has_proxy»)) (ltb (p .proxy) count)) ∷ asksRetry p ∷ []
 
--- a hall, the table of the DCell(b) of a server, and the server
-pub record Here (h : Hall) (table : List ℕ) (me : ℕ) : Type 0 where
+-- a hall, either table, and a server
+pub record Here (h : Hall) (whole : Bool) (table : List ℕ) (me : ℕ) : Type 0 where
   pub sound : valid h ≡ true
-  pub long : length table ≡ cellLength h (h .b)
+  pub long : length table ≡ lentLength h whole
   pub fits : me < servers h
 
 -- another server of the cell
-pub record Target (h : Hall) (table : List ℕ) (me target : ℕ) : Type 0 where
-  pub here : Here h table me
+pub record Target (h : Hall) (whole : Bool) (table : List ℕ) (me target : ℕ) : Type 0 where
+  pub here : Here h whole table me
   pub fits : target < servers h
   pub apart : target ≡ me → ⊥
   pub near : same (h .n) (h .b) me target ≡ true
 
 -- another server of the hall, and the first link above b of the route to it
-pub record Ahead (h : Hall) (table : List ℕ) (me goal : ℕ) (link : Crossing) : Type 0 where
-  pub here : Here h table me
+pub record Ahead (h : Hall) (whole : Bool) (table : List ℕ) (me goal : ℕ) (link : Crossing) : Type 0 where
+  pub here : Here h whole table me
   pub fits : goal < servers h
   pub apart : goal ≡ me → ⊥
   pub first : link ≡ firstLink h me goal
@@ -95,25 +104,36 @@ pub record Sound (h : Hall) (p : Packet) : Type 0 where
   pub retry-fits : p .retry ≤ most-retry
 
 -- and it is neither at its goal nor at its end
-pub record Standing (h : Hall) (table : List ℕ) (me : ℕ) (p : Packet) : Type 0 where
-  pub here : Here h table me
+pub record Standing (h : Hall) (whole : Bool) (table : List ℕ) (me : ℕ) (p : Packet) : Type 0 where
+  pub here : Here h whole table me
   pub packet : Sound h p
   pub dst-apart : p .dst ≡ me → ⊥
   pub goal-apart : goal p ≡ me → ⊥
   pub alive : 0 < p .ttl
 
 -- and this is the first link above b of the route to its goal
-pub record Stopped (h : Hall) (table : List ℕ) (me : ℕ) (link : Crossing) (p : Packet) : Type 0 where
-  pub standing : Standing h table me p
+pub record Stopped (h : Hall) (whole : Bool) (table : List ℕ) (me : ℕ) (link : Crossing) (p : Packet) : Type 0 where
+  pub standing : Standing h whole table me p
   pub first : link ≡ firstLink h me (goal p)
 
--- a place of the cell around a server, and a level of a link
-pub record Placed (h : Hall) (me place level : ℕ) : Type 0 where
+-- a place of the cell and a level of a link above b
+pub record Above (h : Hall) (place level : ℕ) : Type 0 where
   pub sound : valid h ≡ true
-  pub fits : me < servers h
   pub inside : place < cellSize h
-  pub low : 0 < level
+  pub low : h .b < level
   pub high : level ≤ h .k
+
+-- in the cell around a server
+pub record Placed (h : Hall) (me place level : ℕ) : Type 0 where
+  pub above : Above h place level
+  pub fits : me < servers h
+
+-- a server and its neighbour at a level above b
+pub record Crossed (h : Hall) (whole : Bool) (table : List ℕ) (u v level : ℕ) : Type 0 where
+  pub here : Here h whole table u
+  pub low : h .b < level
+  pub high : level ≤ h .k
+  pub leads : v ≡ neighbour (h .n) (level - 1) u
 
 -- a hall, its table, a server and a packet there
 pub record Departing (h : Hall) (table : List ℕ) (me : ℕ) (p : Packet) : Type 0 where

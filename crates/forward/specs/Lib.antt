@@ -7,6 +7,7 @@ pub mod Endings
 pub mod Reroutes
 pub mod Journeys
 pub mod Travels
+pub mod Before
 pub mod Answers
 pub mod Inside
 pub mod Worked

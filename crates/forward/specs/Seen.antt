@@ -1,12 +1,14 @@
 -- All that a step sees of the table it is lent: local distances and next hops, which rest on the usable links of level at most b, and
 -- which links above b are usable. Servers of the cell are places in it.
--- Sections "Port codes" and "Local distance".
+-- Sections "Port codes" and "Local distance"; request K3.
 use mathlib.Core.Bool.{Bool}
 use mathlib.Core.List.{List}
 use Prim.Native.Nat.{ℕ}
+use Rattle.combine.specs.Tests.{both}
 use Rattle.hall.specs.declared.Hall.{Hall}
-use Rattle.ports.specs.Codes.{up}
+use Rattle.ports.specs.Codes.{isUp, up}
 use Rattle.local.specs.Local.{distance, hop}
+use Rattle.ends.specs.Tables.{cellPart, farIn}
 
 pub record Seen : Type 0 where
   -- the distance between two places, `none` where there is none
@@ -16,13 +18,9 @@ pub record Seen : Type 0 where
   -- the link of level i above b at a place is usable
   pub usable : ℕ → ℕ → Bool
 
--- a link above b is usable when the near port has code 1
+-- a link above b is usable when both end ports have code 1: the near one's stands among the cell's codes, the far one's behind them
 unfoldable pub usable : Hall → List ℕ → ℕ → ℕ → Bool
-usable h table i place = up h table place i
-
--- by the hall table: of the link of level i above b at a server
-abbrev pub usableFrom : Hall → List ℕ → ℕ → ℕ → Bool
-usableFrom h table i u = up h table u i
+usable h lent i place = both (up h lent place i) (isUp (farIn h lent place i))
 
 abbrev pub seen : Hall → List ℕ → Seen
-seen h table = record { distance = distance h table; hop = hop h table; usable = usable h table }
+seen h lent = record { distance = distance h (cellPart h lent); hop = hop h (cellPart h lent); usable = usable h lent }

@@ -79,6 +79,6 @@ stepOn h s me p =
     (pick (eqb (p .ttl) 0) (ended drop-ttl p)
     (pick (isArrived me p) (stepFrom h s me p (cleared p) true) (stepFrom h s me p p false)))
 
--- the step at a server over the table of its own DCell(b)
+-- the step at a server over the table that it is lent
 abbrev pub step : Hall → List ℕ → ℕ → Packet → Step
-step h table me p = stepOn h (seen h table) me (tidied p)
+step h lent me p = stepOn h (seen h lent) me (tidied p)

@@ -9,17 +9,18 @@ ghost use lib.Dec.{eqb, ltb};
 ghost use lib.ListN.{length, getD, replicate};
 ghost use Rattle.combine.specs.Tests.{pick, both, either};
 ghost use Rattle.hall.specs.Cells.{same, neighbour};
-ghost use Rattle.hall.specs.Halls.{top, valid};
+ghost use Rattle.hall.specs.Halls.{top, valid, servers};
 ghost use Rattle.hall.specs.Refusals.{refusal, bad-length};
 ghost use Rattle.route.specs.Answers.{firstLink};
-ghost use Rattle.local.specs.Local.{none, placeOf, firstOf};
+ghost use Rattle.local.specs.Local.{none, cellSize, placeOf, firstOf};
+ghost use Rattle.ends.specs.Tables.{stepLength, cellPart, farPlace};
 ghost use Rattle.forward.specs.Packets.{cleared, tidied, proxied, retried, aged, isArrived, goal, sent, ended, counted};
 ghost use Rattle.forward.specs.Seen.{seen, usable};
 ghost use Rattle.forward.specs.Proxies.{choice};
 ghost use Rattle.forward.specs.Steps.{stepFrom, rerouteOn, step};
 ghost use Rattle.forward.specs.Journeys.{trip};
 ghost use Rattle.forward.specs.Answers.{most-passed, refusedStep, stepOf, journeyFrom, refusedJourney, journeyOf};
-ghost use Rattle.forward.specs.Inside.{Here, Target, Ahead, Standing, Stopped, Placed, Sound, Departing, wayTo, wayOver, outlookOf, turnOf, asksBelow};
+ghost use Rattle.forward.specs.Inside.{Here, Target, Ahead, Standing, Stopped, Above, Placed, Crossed, Sound, Departing, lent, wayTo, wayOver, outlookOf, turnOf, asksBelow};
 use crate::endings::DELIVERED;
 use crate::endings::DROP_PROXY;
 use crate::endings::DROP_RETRY;
@@ -33,6 +34,7 @@ use hall::refusals::BAD_RETRY;
 use hall::refusals::BAD_UID;
 use hall::refusals::MOST_RETRY;
 use local::NONE;
+use ports::codes::UP;
 use route::Crossing;
 
 // The most uids that a journey passes.
@@ -226,27 +228,69 @@ fn share_cell(h: Hall, x: u32, y: u32) -> bool
     x / count == y / count
 }
 
-// Whether the link of a level above b at a place is usable, by the table of the DCell(b).
-fn is_usable_at(h: Hall, table: &[u8], level: u32, place: u32) -> bool
-    ensures { λ r. ⌜ r ≡ usable h (now (table .entry)) level place ⌝ }
+// The bytes of a table for so many servers.
+fn bytes_of(servers: u32, k: u32) -> usize
+    ensures { λ r. ⌜ r ≡ servers * (k + 1) ⌝ }
 {
-    ports::is_up(h, table, place, level)
+    (servers as usize) * ((k as usize) + 1)
 }
 
-// The same at the server `near`.
-fn is_usable(h: Hall, table: &[u8], level: u32, near: u32) -> bool
-    requires { ⌜ valid h ≡ true ⌝ }
-    ensures { λ r. ⌜ r ≡ usable h (now (table .entry)) level (placeOf h near) ⌝ }
+// The codes of the DCell(b) of a server: the first bytes of what it is lent, or its part of the hall table.
+fn own_part(h: Hall, whole: bool, table: &[u8], me: u32) -> &[u8]
+    requires { ⌜ Here h whole (now table) me ⌝ }
+    ensures { λ r. ⌜ now r ≡ cellPart h (lent h whole (now (table .entry)) me) ⌝ }
 {
-    is_usable_at(h, table, level, near % hall::size_of(h, h.b))
+    let cell = hall::size_of(h, h.b);
+    let bytes = bytes_of(cell, h.k);
+    if !whole {
+        return &table[0..bytes];
+    }
+    let from = ((me / cell) as usize) * bytes;
+    let to = from + bytes;
+    &table[from..to]
+}
+
+// Where the far code for a place and a level stands in the table that a step is lent.
+fn far_place(h: Hall, level: u32, place: u32) -> usize
+    requires { ⌜ Above h place level ⌝ }
+    ensures { λ r. ⌜ r ≡ farPlace h place level ⌝ }
+{
+    let far = place * (h.k - h.b) + (level - h.b - 1);
+    bytes_of(hall::size_of(h, h.b), h.k) + (far as usize)
+}
+
+// Whether the link of a level above b at a place of the cell is usable, by the table that a step is lent.
+fn is_open(h: Hall, table: &[u8], level: u32, place: u32) -> bool
+    requires { ⌜ Above h place level × (length (now table) ≡ stepLength h) ⌝ }
+    ensures { λ r. ⌜ r ≡ usable h (now (table .entry)) level place ⌝ }
+{
+    if !ports::is_up(h, table, place, level) {
+        return false;
+    }
+    let at = far_place(h, level, place);
+    table[at] == UP
+}
+
+// Whether the link of a level above b between two servers is usable: by what the near one is lent, or by both codes in the hall table.
+fn is_usable(h: Hall, whole: bool, table: &[u8], level: u32, near: u32, far: u32) -> bool
+    requires { ⌜ Crossed h whole (now table) near far level ⌝ }
+    ensures { λ r. ⌜ r ≡ usable h (lent h whole (now (table .entry)) near) level (placeOf h near) ⌝ }
+{
+    if !whole {
+        return is_open(h, table, level, near % hall::size_of(h, h.b));
+    }
+    if !ports::is_up(h, table, near, level) {
+        return false;
+    }
+    ports::is_up(h, table, far, level)
 }
 
 // The way to a local target.
-fn way_to(h: Hall, table: &[u8], me: u32, target: u32) -> Way
-    requires { ⌜ Target h (now table) me target ⌝ }
-    ensures { λ r. ⌜ r ≡ wayTo h (seen h (now (table .entry))) me target ⌝ }
+fn way_to(h: Hall, whole: bool, table: &[u8], me: u32, target: u32) -> Way
+    requires { ⌜ Target h whole (now table) me target ⌝ }
+    ensures { λ r. ⌜ r ≡ wayTo h (seen h (lent h whole (now (table .entry)) me)) me target ⌝ }
 {
-    let hop = local::next_hop(h, me, target, table);
+    let hop = local::next_hop(h, me, target, own_part(h, whole, table, me));
     if hop.found == 0 {
         return Way::Unreached;
     }
@@ -254,20 +298,20 @@ fn way_to(h: Hall, table: &[u8], me: u32, target: u32) -> Way
 }
 
 // The way towards a goal, by the first link above b of the route to it.
-fn way_over(h: Hall, table: &[u8], me: u32, goal: u32, link: Crossing) -> Way
-    requires { ⌜ Ahead h (now table) me goal link ⌝ }
-    ensures { λ r. ⌜ r ≡ wayOver h (seen h (now (table .entry))) me goal link ⌝ }
+fn way_over(h: Hall, whole: bool, table: &[u8], me: u32, goal: u32, link: Crossing) -> Way
+    requires { ⌜ Ahead h whole (now table) me goal link ⌝ }
+    ensures { λ r. ⌜ r ≡ wayOver h (seen h (lent h whole (now (table .entry)) me)) me goal link ⌝ }
 {
     match link {
-        Crossing::Nothing => way_to(h, table, me, goal),
+        Crossing::Nothing => way_to(h, whole, table, me, goal),
         Crossing::Link { near, far, level } => {
-            if !is_usable(h, table, level, near) {
+            if !is_usable(h, whole, table, level, near, far) {
                 return Way::Closed;
             }
             if me == near {
                 return Way::To { uid: far };
             }
-            way_to(h, table, me, near)
+            way_to(h, whole, table, me, near)
         }
     }
 }
@@ -300,22 +344,62 @@ fn farthest(distance: &[u8; 72], count: u32) -> u8
     most
 }
 
+// The server at a place of the DCell(b) around `me`.
+fn uid_at(h: Hall, me: u32, place: u32) -> u32
+    requires { ⌜ (valid h ≡ true) × (me < servers h) × (place < cellSize h) ⌝ }
+    ensures { λ r. ⌜ r ≡ firstOf h me + place ⌝ }
+{
+    me - me % hall::size_of(h, h.b) + place
+}
+
+// The neighbour at a level of the server at a place of the DCell(b) around `me`.
+fn proxy_of(h: Hall, me: u32, place: u32, level: u32) -> u32
+    requires { ⌜ Placed h me place level ⌝ }
+    ensures { λ r. ⌜ r ≡ neighbour (h .n) (level - 1) (firstOf h me + place) ⌝ }
+{
+    cells::neighbour_of(h, uid_at(h, me, place), level).uid
+}
+
+// Whether the link of a level above b at a place of the DCell(b) around `me` is usable; in the hall table the far port is looked for last.
+fn is_usable_at(h: Hall, whole: bool, table: &[u8], me: u32, level: u32, place: u32) -> bool
+    requires { ⌜ Here h whole (now table) me × Above h place level ⌝ }
+    ensures { λ r. ⌜ r ≡ usable h (lent h whole (now (table .entry)) me) level place ⌝ }
+{
+    if !whole {
+        return is_open(h, table, level, place);
+    }
+    if !ports::is_up(h, table, uid_at(h, me, place), level) {
+        return false;
+    }
+    ports::is_up(h, table, proxy_of(h, me, place, level), level)
+}
+
 // Whether a place, whose distance is x, is a candidate at distance d.
-fn is_candidate(h: Hall, table: &[u8], level: u32, place: u32, x: u8, d: u8) -> bool
-    ensures { λ r. ⌜ r ≡ both (eqb x d) (usable h (now (table .entry)) level place) ⌝ }
+fn is_candidate(
+    h: Hall,
+    whole: bool,
+    table: &[u8],
+    me: u32,
+    level: u32,
+    place: u32,
+    x: u8,
+    d: u8,
+) -> bool
+    requires { ⌜ Here h whole (now table) me × Above h place level ⌝ }
+    ensures { λ r. ⌜ r ≡ both (eqb x d) (usable h (lent h whole (now (table .entry)) me) level place) ⌝ }
 {
     if x != d {
         return false;
     }
-    is_usable_at(h, table, level, place)
+    is_usable_at(h, whole, table, me, level, place)
 }
 
 // The candidate for a new proxy: the first by level, then by distance, then by uid.
-fn choose(h: Hall, table: &[u8], me: u32, first: u32) -> Candidate
-    requires { ⌜ Here h (now table) me ⌝ }
-    ensures { λ r. ⌜ r ≡ choice h (seen h (now (table .entry))) (placeOf h me) first ⌝ }
+fn choose(h: Hall, whole: bool, table: &[u8], me: u32, first: u32) -> Candidate
+    requires { ⌜ Here h whole (now table) me × (h .b < first) ⌝ }
+    ensures { λ r. ⌜ r ≡ choice h (seen h (lent h whole (now (table .entry)) me)) (placeOf h me) first ⌝ }
 {
-    let from = local::distances_of(h, me, table);
+    let from = local::distances_of(h, me, own_part(h, whole, table, me));
     let count = from.count;
     let distance = from.distance;
     let last = farthest(&distance, count);
@@ -327,7 +411,7 @@ fn choose(h: Hall, table: &[u8], me: u32, first: u32) -> Candidate
             let mut place: u32 = 0;
             while place < count {
                 let at = place as usize;
-                if is_candidate(h, table, level, place, distance[at], d) {
+                if is_candidate(h, whole, table, me, level, place, distance[at], d) {
                     chosen = Candidate::At { place, level };
                     break 'search;
                 }
@@ -363,22 +447,13 @@ fn first_level(h: Hall, level: u32, arrived: bool) -> u32
     level + 1
 }
 
-// The neighbour at a level of the server at a place of the DCell(b) around `me`.
-fn proxy_of(h: Hall, me: u32, place: u32, level: u32) -> u32
-    requires { ⌜ Placed h me place level ⌝ }
-    ensures { λ r. ⌜ r ≡ neighbour (h .n) (level - 1) (firstOf h me + place) ⌝ }
-{
-    let first = me - me % hall::size_of(h, h.b);
-    cells::neighbour_of(h, first + place, level).uid
-}
-
 // What lies before a packet for `dst` on the way to its goal.
-fn look(h: Hall, table: &[u8], me: u32, dst: u32, goal: u32) -> Outlook
-    requires { ⌜ Ahead h (now table) me goal (firstLink h me goal) ⌝ }
-    ensures { λ r. ⌜ r ≡ outlookOf h (seen h (now (table .entry))) me dst goal ⌝ }
+fn look(h: Hall, whole: bool, table: &[u8], me: u32, dst: u32, goal: u32) -> Outlook
+    requires { ⌜ Ahead h whole (now table) me goal (firstLink h me goal) ⌝ }
+    ensures { λ r. ⌜ r ≡ outlookOf h (seen h (lent h whole (now (table .entry)) me)) me dst goal ⌝ }
 {
     let link = first_link(h, me, goal);
-    match way_over(h, table, me, goal, link) {
+    match way_over(h, whole, table, me, goal, link) {
         Way::To { uid } => Outlook::Next { uid },
         Way::Closed => Outlook::Blocked { link },
         Way::Unreached => {
@@ -391,9 +466,17 @@ fn look(h: Hall, table: &[u8], me: u32, dst: u32, goal: u32) -> Outlook
 }
 
 // The packet that goes by another way: without its proxy where no link is out, else with a new one.
-fn turn(h: Hall, table: &[u8], me: u32, link: Crossing, p: Packet, arrived: bool) -> Turned
-    requires { ⌜ Stopped h (now table) me link p ⌝ }
-    ensures { λ r. ⌜ r ≡ turnOf h (seen h (now (table .entry))) me link p arrived ⌝ }
+fn turn(
+    h: Hall,
+    whole: bool,
+    table: &[u8],
+    me: u32,
+    link: Crossing,
+    p: Packet,
+    arrived: bool,
+) -> Turned
+    requires { ⌜ Stopped h whole (now table) me link p ⌝ }
+    ensures { λ r. ⌜ r ≡ turnOf h (seen h (lent h whole (now (table .entry)) me)) me link p arrived ⌝ }
 {
     match link {
         Crossing::Nothing => Turned::Again { packet: cleared(p) },
@@ -402,7 +485,7 @@ fn turn(h: Hall, table: &[u8], me: u32, link: Crossing, p: Packet, arrived: bool
             far: _,
             level,
         } => {
-            match choose(h, table, me, first_level(h, level, arrived)) {
+            match choose(h, whole, table, me, first_level(h, level, arrived)) {
                 Candidate::Nothing => Turned::NoProxy,
                 Candidate::At { place, level: at } => Turned::Again {
                     packet: proxied(proxy_of(h, me, place, at), p),
@@ -415,6 +498,7 @@ fn turn(h: Hall, table: &[u8], me: u32, link: Crossing, p: Packet, arrived: bool
 // The step from 4 on, of a packet that came as `came`, by what lies before it.
 fn step_from(
     h: Hall,
+    whole: bool,
     table: &[u8],
     me: u32,
     came: Packet,
@@ -422,19 +506,20 @@ fn step_from(
     arrived: bool,
     outlook: Outlook,
 ) -> Step
-    requires { ⌜ Standing h (now table) me p × (outlook ≡ outlookOf h (seen h (now table)) me (came .dst) (goal p)) ⌝ }
-    ensures { λ r. ⌜ r ≡ stepFrom h (seen h (now (table .entry))) me came p arrived ⌝ }
+    requires { ⌜ Standing h whole (now table) me p × (outlook ≡ outlookOf h (seen h (lent h whole (now table) me)) me (came .dst) (goal p)) ⌝ }
+    ensures { λ r. ⌜ r ≡ stepFrom h (seen h (lent h whole (now (table .entry)) me)) me came p arrived ⌝ }
 {
     match outlook {
         Outlook::Next { uid } => sent(uid, p),
         Outlook::NoRoute => ended(DROP_ROUTE, came),
-        Outlook::Blocked { link } => reroute(h, table, me, came, link, p, arrived),
+        Outlook::Blocked { link } => reroute(h, whole, table, me, came, link, p, arrived),
     }
 }
 
 // The step by another way, with one retry less.
 fn reroute(
     h: Hall,
+    whole: bool,
     table: &[u8],
     me: u32,
     came: Packet,
@@ -442,25 +527,25 @@ fn reroute(
     p: Packet,
     arrived: bool,
 ) -> Step
-    requires { ⌜ Stopped h (now table) me link p ⌝ }
-    ensures { λ r. ⌜ r ≡ rerouteOn h (seen h (now (table .entry))) me came (p .retry) link p arrived ⌝ }
+    requires { ⌜ Stopped h whole (now table) me link p ⌝ }
+    ensures { λ r. ⌜ r ≡ rerouteOn h (seen h (lent h whole (now (table .entry)) me)) me came (p .retry) link p arrived ⌝ }
 {
     if p.retry <= 1 {
         return ended(DROP_RETRY, came);
     }
-    match turn(h, table, me, link, retried(p), arrived) {
+    match turn(h, whole, table, me, link, retried(p), arrived) {
         Turned::NoProxy => ended(DROP_PROXY, came),
         Turned::Again { packet } => {
-            let outlook = look(h, table, me, came.dst, goal(packet));
-            counted(step_from(h, table, me, came, packet, false, outlook))
+            let outlook = look(h, whole, table, me, came.dst, goal(packet));
+            counted(step_from(h, whole, table, me, came, packet, false, outlook))
         }
     }
 }
 
 // The step of a packet that nothing refuses.
-fn step_at(h: Hall, table: &[u8], me: u32, packet: Packet) -> Step
-    requires { ⌜ Here h (now table) me × Sound h packet ⌝ }
-    ensures { λ r. ⌜ r ≡ step h (now (table .entry)) me packet ⌝ }
+fn step_at(h: Hall, whole: bool, table: &[u8], me: u32, packet: Packet) -> Step
+    requires { ⌜ Here h whole (now table) me × Sound h packet ⌝ }
+    ensures { λ r. ⌜ r ≡ step h (lent h whole (now (table .entry)) me) me packet ⌝ }
 {
     let p = tidied(packet);
     if me == p.dst {
@@ -471,11 +556,11 @@ fn step_at(h: Hall, table: &[u8], me: u32, packet: Packet) -> Step
     }
     if is_arrived(me, p) {
         let q = cleared(p);
-        let outlook = look(h, table, me, p.dst, goal(q));
-        return step_from(h, table, me, p, q, true, outlook);
+        let outlook = look(h, whole, table, me, p.dst, goal(q));
+        return step_from(h, whole, table, me, p, q, true, outlook);
     }
-    let outlook = look(h, table, me, p.dst, goal(p));
-    step_from(h, table, me, p, p, false, outlook)
+    let outlook = look(h, whole, table, me, p.dst, goal(p));
+    step_from(h, whole, table, me, p, p, false, outlook)
 }
 
 // Whether the packet's proxy, if it has one, is among so many servers.
@@ -507,13 +592,6 @@ fn refused_packet(servers: u32, uid: u32, p: Packet) -> u32
     0
 }
 
-// The bytes of a table for so many servers.
-fn bytes_of(servers: u32, k: u32) -> usize
-    ensures { λ r. ⌜ r ≡ servers * (k + 1) ⌝ }
-{
-    (servers as usize) * ((k as usize) + 1)
-}
-
 // The refusal for a table that has to have so many bytes, and a packet at a server, in a hall of so many; 0 for none.
 fn refused(servers: u32, bytes: usize, table: &[u8], uid: u32, p: Packet) -> u32
     ensures { λ r. ⌜ r ≡ refusal ((bad-length, eqb (length (now (table .entry))) bytes) ∷ asksBelow servers uid p) ⌝ }
@@ -543,7 +621,15 @@ fn refused_step(number: u32) -> Step
     }
 }
 
-// One forwarding step at a server, over the table of its own DCell(b).
+// The bytes of a step's table, where a DCell(b) has so many servers.
+fn step_bytes(h: Hall, cell: u32) -> usize
+    requires { ⌜ (valid h ≡ true) × (cell ≡ cellSize h) ⌝ }
+    ensures { λ r. ⌜ r ≡ stepLength h ⌝ }
+{
+    bytes_of(cell, h.k) + ((cell * (h.k - h.b)) as usize)
+}
+
+// One forwarding step at a server, over the table that it is lent: the codes of its own DCell(b), and behind them the far codes.
 pub fn forward_step(h: Hall, uid: u32, packet: Packet, table: &[u8]) -> Step
     ensures { λ r. ⌜ r ≡ stepOf h uid packet (now (table .entry)) ⌝ }
 {
@@ -552,11 +638,11 @@ pub fn forward_step(h: Hall, uid: u32, packet: Packet, table: &[u8]) -> Step
         return refused_step(BAD_HALL);
     }
     let cell = hall::size_of(h, h.b);
-    let number = refused(servers, bytes_of(cell, h.k), table, uid, packet);
+    let number = refused(servers, step_bytes(h, cell), table, uid, packet);
     if number != 0 {
         return refused_step(number);
     }
-    step_at(h, table, uid, packet)
+    step_at(h, false, table, uid, packet)
 }
 
 // No uid passed.
@@ -578,8 +664,7 @@ fn travel(h: Hall, table: &[u8], source: u32, packet: Packet) -> Journey
     let mut at: usize = 0;
     loop {
         uids[at] = me;
-        let part = ports::part_of(h, table, me);
-        let o = step_at(h, part, me, p);
+        let o = step_at(h, true, table, me, p);
         reroutes += o.reroutes;
         if o.ending != FORWARDED {
             return Journey {

@@ -1,17 +1,24 @@
 -- With any codes: each step that forwards hops over a usable link to a server of the hall, with a packet of the hall, so each hop of a
 -- journey does; and the last step says what the ending means.
-use mathlib.Core.Path.{_≡_, refl, sym, _∙_}
+use mathlib.Core.Path.{_≡_, refl, sym, _∙_, ap}
 use mathlib.Core.Bool.{true}
 use mathlib.Core.List.{List}
-use Prim.Native.Nat.{ℕ, suc, _<_}
+use Prim.Native.Nat.{ℕ, suc, _-_, _<_}
 use native.Mathlib.Omega.{arith}
+use lib.ListN.{length}
 use Rattle.combine.proofs.Tests.{never}
 use Rattle.hall.specs.declared.Hall.{Hall}
+use Rattle.hall.specs.Cells.{neighbour}
 use Rattle.hall.specs.Halls.{valid, servers}
 use Rattle.hall.proofs.Growth.{Valid, valid-known}
-use Rattle.ports.specs.Codes.{part}
+use Rattle.ports.specs.Codes.{part, tableLength}
+use Rattle.ports.specs.Links.{bothUp}
+use Rattle.ports.proofs.Parts.{Sound}
+use Rattle.ports.proofs.Links.{joined-more, joined-at}
 use Rattle.local.proofs.Uids.{linked-hall}
-use Rattle.local.specs.Local.{linked}
+use Rattle.local.specs.Local.{placeOf, linked}
+use Rattle.ends.specs.Tables.{stepTable, cellPart}
+use Rattle.ends.proofs.Tables.{near-part}
 use Rattle.forward.specs.declared.Packet.{Packet}
 use Rattle.forward.specs.Packets.{forwarded, drop-retry, cleared, tidied}
 use Rattle.forward.specs.Endings.{Spent}
@@ -20,38 +27,49 @@ use Rattle.forward.proofs.Passes.{pick-ways}
 use Rattle.forward.proofs.Steps.{delivered-there, drop-ttl-there, drop-route-means, drop-retry-means, drop-proxy-means}
 use Rattle.forward.proofs.Ways.{Fits, Hop, inside, over, Final, final-delivered, final-drop-ttl, final-drop-route, final-drop-retry, final-drop-proxy}
 use Rattle.forward.proofs.Trips.{tidied-dst, tidied-ttl, tidied-retry, trip-travels, links-within, reroutes-within, trip-ending, trip-last, each-hop}
-use Rattle.forward.proofs.Hops.{step-forwards}
-use Rattle.forward.proofs.Sight.{seen-links, usable-hall}
-use Rattle.promises.specs.Journeys.{Usable, up-to-b, above-b}
+use Rattle.forward.proofs.Hops.{Forwards, step-forwards}
+use Rattle.forward.proofs.Sight.{seen-links, usable-own}
+use Rattle.promises.specs.Journeys.{Usable}
 use Rattle.promises.specs.AnyCodes.{Means, means-delivered, means-ttl, means-route, means-retry, means-proxy, AnyCodes, RetrySpent}
 
 pub tidied-fits : (h : Hall) (p : Packet) → Fits h p → Fits h (tidied p)
 tidied-fits h p f =
     pick-ways (Fits h) (p .«has_proxy») p (cleared p) (λ e. f) (λ e. record { dst-in = f .dst-in; proxy-in = λ q. never q refl })
 
-module _ (h : Hall) (table : List ℕ) (is-valid : valid h ≡ true) where
+module _ (h : Hall) (table : List ℕ) (is-valid : valid h ≡ true) (long : length table ≡ tableLength h) where
   known : Valid h
   known = valid-known h is-valid
 
-  hop-usable : (me next : ℕ) → Hop h (sight h table me) (λ x z. linked h (part h table me) x z ≡ true) me next → Usable h table me next
-  hop-usable me next (inside place l e j) = up-to-b (rw e (sym (linked-hall h table me place known l) ∙ j))
-  hop-usable me next (over j low high e u) = above-b j low high e (sym (usable-hall h table known me (suc j) high) ∙ u)
+  -- the links of a server's cell, by the table that it is lent
+  abbrev Own : ℕ → ℕ → ℕ → Type 0
+  Own me x z = linked h (cellPart h (stepTable h table me)) x z ≡ true
+
+  hop-usable : (me next : ℕ) → me < servers h → Hop h (sight h table me) (Own me) me next → Usable h table me next
+  hop-usable me next here (inside place l e j) =
+      let s : Sound h table me = record { is-valid = is-valid; long = long; below = here } in
+      let w : linked h (part h table me) (placeOf h me) place ≡ true = ap (λ (cell : List ℕ). linked h cell (placeOf h me) place) (sym (near-part h table me s)) ∙ j in
+      joined-more h table me next (h .b) (h .k) (known .b-low) (rw e (sym (linked-hall h table me place known l) ∙ w))
+  hop-usable me next here (over j low high e u) =
+      let s : Sound h table me = record { is-valid = is-valid; long = long; below = here } in
+      let q : suc j - 1 ≡ j = omega arith in
+      let w : bothUp h table (suc j) me next ≡ true =
+      ap (bothUp h table (suc j) me) (sym (ap (λ (i : ℕ). neighbour (h .n) i me) q ∙ e)) ∙ sym (usable-own h table me s (suc j) (omega arith) high) ∙ u in
+      joined-more h table me next (suc j) (h .k) high (joined-at h table me next j e w)
 
   -- a server of the hall with a packet of the hall
   abbrev Stands : ℕ → Packet → Type 0
   Stands me p = (me < servers h) × Fits h p
 
-  stands-on : (me : ℕ) (p : Packet) → Stands me p → stepAt h table me p .ending ≡ forwarded → Stands (stepAt h table me p .next) (stepAt h table me p .packet)
-  stands-on me p k e =
-      let f = step-forwards h (sight h table me) (λ x z. linked h (part h table me) x z ≡ true) (seen-links h (part h table me) known) is-valid
-      me (tidied p) (k .0) (tidied-fits h p (k .1)) e in
-      (f .inside-hall, f .packet-fits)
+  forwards : (me : ℕ) (p : Packet) → Stands me p → stepAt h table me p .ending ≡ forwarded
+      → Forwards h (sight h table me) (Own me) (seen-links h (stepTable h table me) known) is-valid me (stepAt h table me p)
+  forwards me p k e =
+      step-forwards h (sight h table me) (Own me) (seen-links h (stepTable h table me) known) is-valid me (tidied p) (k .0) (tidied-fits h p (k .1)) e
 
-  hops-usable : (me : ℕ) (p : Packet) → Stands me p → stepAt h table me p .ending ≡ forwarded → Usable h table me (stepAt h table me p .next)
-  hops-usable me p k e =
-      let f = step-forwards h (sight h table me) (λ x z. linked h (part h table me) x z ≡ true) (seen-links h (part h table me) known) is-valid
-      me (tidied p) (k .0) (tidied-fits h p (k .1)) e in
-      hop-usable me (stepAt h table me p .next) (f .hop)
+  pub stands-on : (me : ℕ) (p : Packet) → Stands me p → stepAt h table me p .ending ≡ forwarded → Stands (stepAt h table me p .next) (stepAt h table me p .packet)
+  stands-on me p k e = let f = forwards me p k e in (f .inside-hall, f .packet-fits)
+
+  pub hops-usable : (me : ℕ) (p : Packet) → Stands me p → stepAt h table me p .ending ≡ forwarded → Usable h table me (stepAt h table me p .next)
+  hops-usable me p k e = hop-usable me (stepAt h table me p .next) (k .0) (forwards me p k e .hop)
 
 -- what the ending of a step means
 means : (h : Hall) (table : List ℕ) (at : ℕ) (p : Packet) {e : ℕ} → Final e → stepAt h table at p .ending ≡ e → Means h table at p e
@@ -81,7 +99,7 @@ any-codes h table source p s =
         means = means h table (l .at) (l .came) (trip-ending h table w) (l .ends-it);
       };
       links-usable =
-          each-hop h table (Stands h table (s .hall-valid)) (Usable h table) (stands-on h table (s .hall-valid)) (hops-usable h table (s .hall-valid))
+          each-hop h table (Stands h table (s .hall-valid) (s .table-long)) (Usable h table) (stands-on h table (s .hall-valid) (s .table-long)) (hops-usable h table (s .hall-valid) (s .table-long))
           w (s .source-in, record { dst-in = s .dst-in; proxy-in = s .proxy-in });
       links-few = links-within h table w;
       reroutes-few = reroutes-within h table w;

@@ -15,6 +15,7 @@ use Rattle.route.specs.Routes.{route, hops}
 use Rattle.route.specs.Answers.{padded, inHall, firstAmong, firstAbove, firstLink}
 use Rattle.local.specs.Lowest.{lowestFrom}
 use Rattle.local.specs.Local.{cellSize, placeOf, firstOf, linked, distancesFrom, distance, nearer, hop}
+use Rattle.ends.specs.Tables.{farCount, farCode, farAt, stepTable, cellPart, farPlace, farIn}
 use Rattle.forward.specs.Packets.{isArrived, goal}
 use Rattle.forward.specs.Seen.{usable}
 use Rattle.forward.specs.Proxies.{isCandidate, bestBelow, firstFound, choice}
@@ -30,5 +31,5 @@ use Rattle.promises.specs.Cases.{Case, value, cases}
 
 -- each case has the value that is stated
 pub all-cases : map (λ (c : Case). value (c .0)) cases ≡ map (λ (c : Case). c .1) cases
-unfolding anyBelow allBelow upTo refusal t g cell same sub port end near far neighbour lowest nFits kFits bFits valid servers entry limit uidUpTo entryFits tupleFits entryAt sizeAt known allKnown firstUnknown codeOf up tableLength cellLength run onSwitch bothUp joined new mark marks route hops padded inHall firstAmong firstAbove firstLink lowestFrom cellSize placeOf firstOf linked distancesFrom distance nearer hop isArrived goal usable isCandidate bestBelow firstFound choice reachable firstLevel rerouteOn stepFrom stepOn tripOn passed sheetOf sheetWith nightSheet tablesOf times packet read and-then words.value
+unfolding anyBelow allBelow upTo refusal t g cell same sub port end near far neighbour lowest nFits kFits bFits valid servers entry limit uidUpTo entryFits tupleFits entryAt sizeAt known allKnown firstUnknown codeOf up tableLength cellLength run onSwitch bothUp joined new mark marks route hops padded inHall firstAmong firstAbove firstLink lowestFrom cellSize placeOf firstOf linked distancesFrom distance nearer hop isArrived goal cellPart farPlace farIn farCount farCode farAt stepTable usable isCandidate bestBelow firstFound choice reachable firstLevel rerouteOn stepFrom stepOn tripOn passed sheetOf sheetWith nightSheet tablesOf times packet read and-then words.value
 all-cases = refl

@@ -18,7 +18,8 @@ use Rattle.hall.specs.Halls.{valid, servers}
 use Rattle.hall.proofs.Cells.{same-mono}
 use Rattle.hall.proofs.Growth.{Valid, valid-known}
 use Rattle.hall.proofs.Links.{hall-same}
-use Rattle.ports.specs.Codes.{part, cellLength, tableLength, EveryUp}
+use Rattle.ports.specs.Codes.{cellLength, tableLength, EveryUp}
+use Rattle.ports.proofs.Parts as parts
 use Rattle.route.specs.declared.Crossing.{Crossing}
 use Rattle.route.specs.Routes.{hops, ofLevel, select, above, route}
 use Rattle.route.specs.Delivery.{hop, passed, left, Local}
@@ -28,13 +29,15 @@ use Rattle.route.proofs.Lowest.{lowest-holds}
 use Rattle.route.proofs.Above.{above-none, above-hops, above-of-level}
 use Rattle.route.proofs.Recursion.{above-lowest, links-none-above}
 use Rattle.route.proofs.Delivery as delivery
-use Rattle.local.specs.Local.{none, placeOf, linked, between, towards}
+use Rattle.local.specs.Local.{none, cellSize, placeOf, linked, between, towards}
 use Rattle.local.proofs.Sizes.{place-fits}
 use Rattle.local.proofs.Short.{AllUp, all-up-reached, all-up-between, all-up-local, all-up-table, all-up-part, all-up-agree, towards-agree}
+use Rattle.ends.specs.Tables.{stepTable, cellPart}
+use Rattle.ends.proofs.Tables.{near-part}
 use Rattle.forward.specs.declared.Packet.{Packet}
 use Rattle.forward.specs.declared.Step.{Step}
 use Rattle.forward.specs.Packets.{forwarded, delivered, cleared, tidied, isArrived, goal, aged}
-use Rattle.forward.specs.Seen.{seen}
+use Rattle.forward.specs.Seen.{usable, seen}
 use Rattle.forward.specs.Steps.{reachable, stepOn}
 use Rattle.forward.specs.Journeys.{Trip, stepAt, endsAt, trip, sight}
 use Rattle.forward.specs.Endings.{Target, the-goal, the-near, Fails, unusable, out-of-reach}
@@ -86,26 +89,30 @@ module _ (h : Hall) (is-valid : valid h ≡ true) where
   unfolding ones
   all-local = all-up-local h (ones h) known (all-up-table h)
 
-  module _ (cell : List ℕ) (all : AllUp h cell) where
+  module _ (lent : List ℕ) (all : AllUp h (cellPart h lent))
+      (every : (i place : ℕ) → place < cellSize h → h .b < i → i ≤ h .k → usable h lent i place ≡ true) where
+    abbrev cell : List ℕ
+    cell = cellPart h lent
+
     hop-onward : (x target : ℕ) → towards h cell x target ≡ onward h x target
     unfolding ones
     hop-onward x target = towards-agree h cell (ones h) known (all-up-agree h cell (ones h) all (all-up-table h)) x target
 
     -- one step towards y, of a packet without a proxy
     module _ (x : ℕ) (p : Packet) (here : x < servers h) (there : p .dst < servers h) where
-      in-reach : (target : ℕ) → reachable h (seen h cell) x (cleared p) target ≡ true
+      in-reach : (target : ℕ) → reachable h (seen h lent) x (cleared p) target ≡ true
       unfolding reachable
       in-reach target =
           ap not (ne-eqb _ none (all-up-reached h cell known all (placeOf h target) (placeOf h x) (place-fits h known target) (place-fits h known x)))
 
-      no-failure : {link : Crossing} → Fails h (seen h cell) x (cleared p) (cleared p) link → ⊥
+      no-failure : {link : Crossing} → Fails h (seen h lent) x (cleared p) (cleared p) link → ⊥
       unfolding goal
       no-failure (unusable {n1 = n1} {m = m} e u) =
           let a = link-ahead h is-valid x (p .dst) here there e in
-          never (usable-every h cell known all m (placeOf h n1) (place-fits h known n1) (omega (arith, a .level, a .high))) u
+          never (every m (placeOf h n1) (place-fits h known n1) (omega (arith, a .level, a .low)) (omega (arith, a .level, a .high))) u
       no-failure (out-of-reach {target = target} t r w) = never (in-reach target) r
 
-      nears-so : {link : Crossing} {target : ℕ} → Target h (seen h cell) x (cleared p) (cleared p) link target
+      nears-so : {link : Crossing} {target : ℕ} → Target h (seen h lent) x (cleared p) (cleared p) link target
           → towards h cell x target ≡ onwards h x (p .dst)
       unfolding goal
       nears-so (the-goal e) =
@@ -114,7 +121,7 @@ module _ (h : Hall) (is-valid : valid h ≡ true) where
           let a = link-above h is-valid x (p .dst) here there e in
           hop-onward x n1 ∙ sym (hop-near (onward h) (h .n) (h .b) (h .k) x (p .dst) n1 n2 (a .0) (a .1) d)
 
-      passes-onward : {o : Step} → Passes h (seen h cell) x (cleared p) (cleared p) false o → Onward h x p o
+      passes-onward : {o : Step} → Passes h (seen h lent) x (cleared p) (cleared p) false o → Onward h x p o
       unfolding goal towards
       passes-onward (ends (nears t r)) = record { goes = refl; hops-so = nears-so t; not-rerouted = refl; as-before = refl }
       passes-onward (ends (crosses {n1 = n1} {n2 = n2} e u q)) =
@@ -126,11 +133,11 @@ module _ (h : Hall) (is-valid : valid h ≡ true) where
       passes-onward (clears w e t) = absurd (no-failure w)
       passes-onward (sets w e g t) = absurd (no-failure w)
 
-      step-onward : (x ≡ p .dst → ⊥) → 0 < p .ttl → Onward h x p (stepOn h (seen h cell) x (cleared p))
+      step-onward : (x ≡ p .dst → ⊥) → 0 < p .ttl → Onward h x p (stepOn h (seen h lent) x (cleared p))
       unfolding isArrived
-      step-onward ne l = go (step-ways h (seen h cell) x (cleared p))
+      step-onward ne l = go (step-ways h (seen h lent) x (cleared p))
         where
-          go : {o : Step} → Steps h (seen h cell) x (cleared p) o → Onward h x p o
+          go : {o : Step} → Steps h (seen h lent) x (cleared p) o → Onward h x p o
           go (delivers e) = absurd (ne e)
           go (dies d z) = absurd (omega arith)
           go (arrives d k a w) = never a refl
@@ -138,14 +145,18 @@ module _ (h : Hall) (is-valid : valid h ≡ true) where
 
 -- the journey over a hall table whose every port is up
 module _ (h : Hall) (table : List ℕ) (is-valid : valid h ≡ true) (long : length table ≡ tableLength h) (all : EveryUp table) where
-  part-up : (x : ℕ) → x < servers h → AllUp h (part h table x)
-  part-up x l = all-up-part h table x all (record { is-valid = is-valid; long = long; below = l })
+  known-there : (x : ℕ) → x < servers h → parts.Sound h table x
+  known-there x l = record { is-valid = is-valid; long = long; below = l }
+
+  part-up : (x : ℕ) → x < servers h → AllUp h (cellPart h (stepTable h table x))
+  part-up x l = rw (near-part h table x (known-there x l)) (all-up-part h table x all (known-there x l))
 
   cleared-step : (x : ℕ) (p : Packet) → p .«has_proxy» ≡ false → stepAt h table x p ≡ stepOn h (sight h table x) x (cleared p)
   cleared-step x p e = ap (stepOn h (sight h table x) x) (tidied-none p e)
 
   step-goes : (x : ℕ) (p : Packet) → p .«has_proxy» ≡ false → x < servers h → p .dst < servers h → (x ≡ p .dst → ⊥) → 0 < p .ttl → Onward h x p (stepAt h table x p)
-  step-goes x p e here there ne l = rw (cleared-step x p e) (step-onward h is-valid (part h table x) (part-up x here) x p here there ne l)
+  step-goes x p e here there ne l = rw (cleared-step x p e) (step-onward h is-valid (stepTable h table x) (part-up x here)
+      (λ i place k low high. usable-every h table x (known-there x here) i place k low high all) x p here there ne l)
 
   -- at dst the packet is delivered, and where its TTL is 0 it goes no further
   step-there : (x : ℕ) (p : Packet) → p .«has_proxy» ≡ false → x ≡ p .dst → (stepAt h table x p .ending ≡ delivered) × (stepAt h table x p .reroutes ≡ 0)
@@ -210,7 +221,7 @@ module _ (h : Hall) (table : List ℕ) (is-valid : valid h ≡ true) (long : len
       next-in : (x : ℕ) (p : Packet) → p .«has_proxy» ≡ false → x < servers h → p .dst < servers h → stepAt h table x p .ending ≡ forwarded → stepAt h table x p .next < servers h
       next-in x p e here there w =
           let f : Fits h (tidied p) = rw (tidied-none p e) (record { dst-in = there; proxy-in = λ q. never q refl }) in
-          step-forwards h (sight h table x) (λ y z. linked h (part h table x) y z ≡ true) (seen-links h (part h table x) (valid-known h is-valid)) is-valid
+          step-forwards h (sight h table x) (λ y z. linked h (cellPart h (stepTable h table x)) y z ≡ true) (seen-links h (stepTable h table x) (valid-known h is-valid)) is-valid
           x (tidied p) here f w .inside-hall
 
 -- what is left to go at first is below 2 ^ (l + 1), l being the lowest level that holds both

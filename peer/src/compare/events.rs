@@ -8,12 +8,13 @@ use peer::forward::{
     JOURNEY_ROOM,
 };
 use peer::hall::Hall;
-use peer::ports::part;
-use peer::refusal::{ADDRESS, CHECKSUM, DHL, FLAGS, NONE, PF, SHORT_FRAME, VERSION};
+use peer::ports::UP;
+use peer::refusal::{ADDRESS, CHECKSUM, DHL, FLAGS, LENGTH, NONE, PF, SHORT_FRAME, VERSION};
 use peer::route::first_link;
 
 use super::faults::{Fault, Faults, FRAME_FAULTS, PAIRS};
-use super::packets::Far;
+use super::packets::{Far, Near};
+use super::tables::{cell_codes, lent_to_step};
 
 /// The most links of a journey.
 pub const MOST_LINKS: usize = JOURNEY_ROOM - 1;
@@ -31,6 +32,10 @@ pub enum Event {
     Cleared,
     /// In a hall of top level k a packet at its proxy found a link of a level of no use, and a new proxy.
     Arrived { k: u32, level: u32 },
+    /// A step would do something else if every far port were up.
+    FarPort,
+    /// A step was refused a table of its cell that has no far codes.
+    CellAlone,
     /// The journey crossed the most links and ended so.
     Longest(u32),
     /// The call returned a number, and the first of its two rooms, the second or both were short.
@@ -43,9 +48,10 @@ pub enum Event {
     Faults([Fault; 2]),
 }
 
-/// What steps and journeys have to meet: first that a step forwards, then what both share, last the longest journeys.
+/// What steps and journeys have to meet: first what steps alone do, then what both share, last the longest journeys.
 const ALL: &[Event] = &[
     Event::Ending(FORWARDED),
+    Event::CellAlone,
     Event::Ending(DROP_TTL),
     Event::Ending(DROP_NO_ROUTE),
     Event::Ending(DROP_RETRY),
@@ -62,6 +68,7 @@ const ALL: &[Event] = &[
     Event::Arrived { k: 3, level: 1 },
     Event::Arrived { k: 3, level: 2 },
     Event::Arrived { k: 3, level: 3 },
+    Event::FarPort,
     Event::Longest(DROP_TTL),
     Event::Longest(DELIVERED),
 ];
@@ -69,7 +76,7 @@ const ALL: &[Event] = &[
 /// What every comparison of steps has to meet.
 pub const STEP: &[Event] = ALL.split_at(ALL.len() - 2).0;
 /// What every comparison of journeys has to meet.
-pub const JOURNEY: &[Event] = ALL.split_at(1).1;
+pub const JOURNEY: &[Event] = ALL.split_at(2).1;
 
 /// The numbers that the reading of a frame can give, each with its place.
 const TOLD: [Event; 8] = [
@@ -105,6 +112,8 @@ impl Display for Event {
             Event::Arrived { k, level } => {
                 write!(f, "arrived k={k} link {level} m={}", m(k, level))
             }
+            Event::FarPort => f.write_str("far port decides"),
+            Event::CellAlone => f.write_str("table without far codes"),
             Event::Longest(ending) => {
                 write!(f, "{} after {MOST_LINKS} links", ending_words(ending))
             }
@@ -152,10 +161,11 @@ impl Met {
         }
     }
 
-    /// Counts what a step did with a packet that came to a server.
-    pub fn add_step(&mut self, h: Hall, uid: u32, came: &Packet, answer: &Step) {
+    /// Takes a sound step of a packet that came to a server, and counts what it did.
+    fn add_step(&mut self, h: Hall, uid: u32, came: Packet, lent: &[u8]) -> Step {
+        let answer = step(h, uid, came, lent);
         self.add(Event::Reroutes(answer.reroutes));
-        let set = set_by(answer);
+        let set = set_by(&answer);
         if set {
             self.add(Event::Set);
         }
@@ -166,14 +176,29 @@ impl Met {
             let level = first_link(h, uid, came.dst).level;
             self.add(Event::Arrived { k: h.k, level });
         }
+        if answer != step(h, uid, came, &with_far_ports_up(h, lent)) {
+            self.add(Event::FarPort);
+        }
+        answer
+    }
+
+    /// Counts what a step did that returned a number, and how it ended.
+    pub fn add_near(&mut self, at: &Near, number: u32) {
+        if number == NONE {
+            let answer = self.add_step(at.hall, at.uid, at.packet, &at.codes);
+            self.add(Event::Ending(answer.ending));
+        }
+        if number == LENGTH && at.codes.len() == cell_codes(at.hall) {
+            self.add(Event::CellAlone);
+        }
     }
 
     /// Counts what the steps of a sound journey did, how it ended, and whether it crossed the most links.
     pub fn add_journey(&mut self, at: &Far) {
         let (mut uid, mut packet) = (at.uid, at.packet);
         for links in 0.. {
-            let answer = step(at.hall, uid, packet, part(at.hall, &at.table, uid).1);
-            self.add_step(at.hall, uid, &packet, &answer);
+            let lent = lent_to_step(at.hall, &at.table, uid);
+            let answer = self.add_step(at.hall, uid, packet, &lent);
             if answer.ending == FORWARDED {
                 (uid, packet) = (answer.next, answer.packet);
                 continue;
@@ -225,6 +250,13 @@ fn m(k: u32, level: u32) -> u32 {
     k.min(level + 1)
 }
 
+/// The table lent to a step, with every far port up.
+fn with_far_ports_up(h: Hall, lent: &[u8]) -> Vec<u8> {
+    let mut codes = lent.to_vec();
+    codes[cell_codes(h)..].fill(UP);
+    codes
+}
+
 /// Whether a step set a proxy: the last of its reroutes did, where it sends the packet on to one.
 fn set_by(answer: &Step) -> bool {
     answer.ending == FORWARDED && answer.reroutes > 0 && answer.packet.has_proxy
@@ -250,14 +282,14 @@ mod tests {
         }
     }
 
-    /// What one step does in a cell of server 0 with these ports down.
+    /// What one step does at server 0 with these ports down; those from 8 on are far ones.
     fn step_events(packet: Packet, down: &[usize]) -> Vec<String> {
-        let mut codes = [1; 8];
+        let mut codes = [1; 12];
         for &place in down {
             codes[place] = 2;
         }
         let mut met = Met::default();
-        met.add_step(HALL, 0, &packet, &step(HALL, 0, packet, &codes));
+        met.add_step(HALL, 0, packet, &codes);
         met.texts().collect()
     }
 
@@ -277,6 +309,18 @@ mod tests {
         assert_eq!(step_events(over(0, 5), &[7]), arrived);
         assert_eq!(step_events(over(0, 1), &[7]), ["0 reroutes: 1"]);
         assert_eq!(step_events(over(0, 5), &[]), ["0 reroutes: 1"]);
+    }
+
+    #[test]
+    fn a_far_port_that_decides_is_told() {
+        let rerouted = ["1 reroute: 1", "proxy set: 1", "far port decides: 1"];
+        let packet = Packet {
+            has_proxy: false,
+            ..over(0, 5)
+        };
+        assert_eq!(step_events(packet, &[11]), rerouted);
+        assert_eq!(step_events(packet, &[8]), ["0 reroutes: 1"]);
+        assert_eq!(step_events(packet, &[7, 11]), rerouted[..2]);
     }
 
     #[test]
@@ -336,11 +380,8 @@ mod tests {
         let mut met = Met::default();
         for _ in 0..100_000 {
             let at = any_near(&mut random);
-            let answer = step(at.hall, at.uid, at.packet, &at.codes);
-            if answer.refusal == 0 {
-                met.add(Event::Ending(answer.ending));
-                met.add_step(at.hall, at.uid, &at.packet, &answer);
-            }
+            let number = step(at.hall, at.uid, at.packet, &at.codes).refusal;
+            met.add_near(&at, number);
         }
         let rare = |event: &&Event| met.0.get(event).is_none_or(|&count| count < 10);
         assert_eq!(

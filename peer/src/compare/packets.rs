@@ -1,4 +1,4 @@
-//! Packets to forward: at a server with the table of its cell, or on a journey over the hall table.
+//! Packets to forward: at a server with the table lent to its step, or on a journey over the hall table.
 
 use peer::forward::{Packet, Step, MOST_RETRY};
 use peer::hall::{self, Hall};
@@ -6,9 +6,7 @@ use peer::random::Random;
 use peer::refusal::NONE;
 
 use super::inputs::{any_hall, any_uid, servers, sizes};
-use super::tables::{
-    any_codes, any_hall_table, any_length, cell_codes, codes, sound_hall_table, Table,
-};
+use super::tables::{any_hall_table, any_step_table, codes, sound_hall_table, step_codes, Table};
 use super::trails::any_longest;
 
 /// The bytes of a step's answer: eight words of four.
@@ -18,9 +16,9 @@ const RETRIES: u32 = MOST_RETRY as u32 + 2;
 /// One proxy in so many is the server that the packet is at, besides those drawn so by chance.
 const ARRIVED: u32 = 6;
 /// One journey in so many crosses the most links.
-const LONGEST: u32 = 1000;
+const LONGEST: u32 = 2_000;
 
-/// A packet at a server, with the table of the server's cell.
+/// A packet at a server, with the table lent to its step.
 #[derive(Debug)]
 pub struct Near {
     pub hall: Hall,
@@ -28,7 +26,7 @@ pub struct Near {
     pub packet: Packet,
     /// The number that tells of a proxy.
     pub flag: u32,
-    pub codes: Vec<u8>,
+    pub codes: Table,
 }
 
 /// A packet at its source, with the hall table.
@@ -42,18 +40,17 @@ pub struct Far {
     pub table: Table,
 }
 
-/// Any packet at any server, with any table of its cell.
+/// Any packet at any server, with any table for its step.
 pub fn any_near(random: &mut Random) -> Near {
     let hall = any_hall(random);
     let uid = any_uid(random, hall);
     let (packet, flag) = any_packet(random, hall, uid);
-    let count = any_length(random, cell_codes(hall));
     Near {
         hall,
         uid,
         packet,
         flag,
-        codes: any_codes(random, count),
+        codes: any_step_table(random, hall),
     }
 }
 
@@ -77,7 +74,7 @@ fn any_journey(random: &mut Random) -> Far {
     }
 }
 
-/// A packet without a proxy at a server of a sound hall, with so many in a hundred codes of its cell not up.
+/// A packet without a proxy at a server of a sound hall, with so many in a hundred of the codes lent to it not up.
 pub fn sound_near(random: &mut Random, hall: Hall, not_up: u32) -> Near {
     let uid = random.below(servers(hall).unwrap_or(1));
     Near {
@@ -85,7 +82,7 @@ pub fn sound_near(random: &mut Random, hall: Hall, not_up: u32) -> Near {
         uid,
         packet: sound_packet(random, hall),
         flag: 0,
-        codes: codes(random, cell_codes(hall), not_up),
+        codes: Table::Own(codes(random, step_codes(hall), not_up)),
     }
 }
 

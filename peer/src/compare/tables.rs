@@ -7,8 +7,9 @@ use std::ops::Deref;
 use std::sync::{Mutex, OnceLock, PoisonError};
 
 use peer::hall::{Hall, MOST_K, MOST_N};
-use peer::ports::UP;
+use peer::ports::{self, UP};
 use peer::random::Random;
+use peer::refusal::NONE;
 
 use super::inputs::{any_hall, servers, sizes};
 
@@ -80,6 +81,12 @@ pub fn cell_codes(h: Hall) -> usize {
     codes_of(h, h.b)
 }
 
+/// The codes of the table lent to a step in a sound hall, or those supposed: those of a DCell(b), then those of its far ports above b.
+pub fn step_codes(h: Hall) -> usize {
+    let far = sizes(h).map_or(0, |t| t[h.b as usize] * (h.k - h.b));
+    cell_codes(h) + far as usize
+}
+
 /// The codes of a DCell(level) of a sound hall, or those supposed.
 fn codes_of(h: Hall, level: u32) -> usize {
     let count = sizes(h).map(|t| t[level as usize] * (h.k + 1));
@@ -102,9 +109,15 @@ pub fn light_hall(random: &mut Random) -> Hall {
 
 /// A length that is mostly the right one, else one beside it or any a little above it or below.
 pub fn any_length(random: &mut Random, right: usize) -> usize {
-    if !random.once_in(WRONG_LENGTH) {
-        return right;
+    if random.once_in(WRONG_LENGTH) {
+        wrong_length(random, right)
+    } else {
+        right
     }
+}
+
+/// A length beside the right one, or any a little above it or below.
+fn wrong_length(random: &mut Random, right: usize) -> usize {
     match random.below(4) {
         0 => right - 1,
         1 => right + 1,
@@ -183,9 +196,34 @@ fn hall_table(random: &mut Random, h: Hall, drawn: fn(&mut Random, usize) -> Vec
     if light(h) {
         return Table::Own(drawn(random, count));
     }
+    pool_part(random, count)
+}
+
+/// So many codes of the pool, from any of its places on.
+fn pool_part(random: &mut Random, count: usize) -> Table {
     let pool = POOL.get_or_init(|| drawn_pool(TESTED_SEED));
     let start = random.below((pool.len() - count) as u32 + 1) as usize;
     Table::Shared(&pool[start..start + count])
+}
+
+/// A table for a step in any hall, mostly of the right length. Among the wrong lengths are that of the cell alone, without the far codes,
+/// and that of the hall table.
+pub fn any_step_table(random: &mut Random, h: Hall) -> Table {
+    let right = step_codes(h);
+    let count = match (random.once_in(WRONG_LENGTH), random.below(3)) {
+        (false, _) => right,
+        (true, 0) => cell_codes(h),
+        (true, 1) => return pool_part(random, hall_codes(h)),
+        (true, _) => wrong_length(random, right),
+    };
+    Table::Own(any_codes(random, count))
+}
+
+/// The table lent to a step of a server of a sound hall, filled from the hall table.
+pub fn lent_to_step(h: Hall, hall_table: &[u8], uid: u32) -> Vec<u8> {
+    let mut codes = vec![0; step_codes(h)];
+    assert_eq!(ports::step_table(h, hall_table, uid, &mut codes), NONE);
+    codes
 }
 
 /// A table of the right length for a hall, with so many in a hundred codes not up, and one of the hall's servers. Where the hall is not
@@ -252,6 +290,43 @@ mod tests {
         let (table, uid) = sound_hall_table(&mut random, h, 5);
         assert_eq!(table.len(), 97_968);
         assert!(uid < 24_492);
+    }
+
+    #[test]
+    fn the_largest_table_of_a_step_has_432_codes_and_one_of_top_level_b_no_far_ones() {
+        let codes = |n, k, b| step_codes(Hall { n, k, b });
+        assert_eq!(codes(8, 3, 1), 432);
+        assert_eq!(
+            [codes(8, 3, 0), codes(2, 2, 0), codes(2, 2, 1)],
+            [56, 10, 24]
+        );
+        assert_eq!([codes(4, 0, 0), codes(4, 1, 1)], [4, 40]);
+    }
+
+    #[test]
+    fn tables_of_a_step_have_mostly_the_right_length_and_every_wrong_one_is_met() {
+        let mut random = Random::new(7);
+        for (h, [cell, right, hall]) in [
+            (Hall { n: 2, k: 3, b: 1 }, [24, 36, 7_224]),
+            (Hall { n: 4, k: 3, b: 0 }, [16, 28, 707_280]),
+        ] {
+            let lengths: Vec<usize> = (0..2_000)
+                .map(|_| any_step_table(&mut random, h).len())
+                .collect();
+            let sound = lengths.iter().filter(|&&length| length == right).count();
+            assert!((1_700..1_800).contains(&sound), "{sound}");
+            for length in [0, cell, right - 1, right + 1, hall] {
+                assert!(lengths.contains(&length), "{length}");
+            }
+        }
+    }
+
+    #[test]
+    fn codes_lent_to_a_step_are_those_of_its_cell_and_of_the_far_ports() {
+        let h = Hall { n: 4, k: 1, b: 0 };
+        let table: Vec<u8> = (0..40).collect();
+        let lent = [0, 1, 2, 3, 4, 5, 6, 7, 9, 17, 25, 33];
+        assert_eq!(lent_to_step(h, &table, 2), lent);
     }
 
     #[test]

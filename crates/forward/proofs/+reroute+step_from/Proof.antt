@@ -25,10 +25,10 @@ use Rattle.forward.proofs.+reroute+step_from.{statement}
 use Rattle.forward.proofs.+reroute+step_from.Tie.{close}
 
 abbrev μ-reroute : Measures 1 reroute-kinds.ps ℕ
-μ-reroute κs a = 2 * a .1 .1 .1 .1 .1 .0 .retry
+μ-reroute κs a = 2 * a .1 .1 .1 .1 .1 .1 .0 .retry
 
 abbrev μ-step-from : Measures 1 step-from-kinds.ps ℕ
-μ-step-from κs a = 2 * a .1 .1 .1 .1 .0 .retry + 1
+μ-step-from κs a = 2 * a .1 .1 .1 .1 .1 .0 .retry + 1
 
 abbrev reroute-at : ℕ → In 1 reroute-kinds.ps
 reroute-at t = and 1 reroute-kinds.ps (is 1 reroute-kinds.ps μ-reroute t) reroute.Pre
@@ -105,7 +105,7 @@ reroute-step-from-requires t c κs = (
   omega (arith, turn-retry _ _ _ _ _ _ _ (sym (c .before .before .before .before .before .turn .ensures) ∙ c .before .before .before .packet .given .1), ap (λ (x : Packet). x .retry) (c .before .before .before .before .before .before .retried .ensures)),
   (
     stands-again _ _ _ _ _ (stopped-retried _ _ _ _ _ (c .before .before .before .before .before .before .before .before .before .before .pre .1) _ (c .before .before .before .before .before .before .retried .ensures)) _ (c .before .before .before .before .before .before .before .before .before .before .args .arrived) _ (sym (c .before .before .before .before .before .turn .ensures) ∙ c .before .before .before .packet .given .1),
-    looked _ (c .before .before .before .before .before .before .before .before .before .before .args .table .now) _ _ _ _ _ _ (c .before .goal .ensures) (c .look .ensures),
+    looked _ _ _ _ _ _ _ (c .before .goal .ensures) (c .look .ensures),
   ),
 )
 

@@ -9,6 +9,7 @@ use Rattle.hall.proofs.Growth.{valid-known}
 use Rattle.local.specs.Local.{cellSize, placeOf}
 use Rattle.forward.specs.declared.Candidate.the-variants.{Nothing}
 use Rattle.forward.specs.Seen.{seen}
+use Rattle.forward.specs.Inside.{lent}
 use Rattle.forward.specs.Proxies.{isCandidate, choice}
 use Rattle.forward.proofs.CodeChoice.{choiceFrom, choice-whole, found-here, found-later, found-never, count-is, count-fits, distance-is, distance-small, look-finds, look-passes, passed-more, none-behind, nearest-best, none-best}
 use Rattle.forward.proofs.choose.Statement.{statement}
@@ -21,27 +22,32 @@ use Rattle.local.proofs.distances_of.Reads as distances-of-reads
 
 -- no candidate of a level among the first places is nearer than d, or none of those at distance d is below a place
 abbrev Inv-loop2 : tie.InvT-loop2
-Inv-loop2 h table me first count distance last chosen₀ level d place₀ chosen place =
+Inv-loop2 h whole table me first count distance last chosen₀ level d place₀ chosen place =
     (place ≤ count) × (chosen ≡ Nothing)
-    × ((q : ℕ) → q < place → isCandidate (seen h table) (placeOf h me) level q ≡ true → d < (seen h table) .distance (placeOf h me) q)
+    × ((q : ℕ) → q < place → isCandidate (seen h (lent h whole table me)) (placeOf h me) level q ≡ true → d < (seen h (lent h whole table me)) .distance (placeOf h me) q)
 
 abbrev μ-loop2 : tie.MeasureT-loop2
-μ-loop2 h table me first count distance last chosen₀ level d place₀ chosen place = count - place
+μ-loop2 h whole table me first count distance last chosen₀ level d place₀ chosen place = count - place
 
 abbrev Inv-loop : tie.InvT-loop
-Inv-loop h table me first count distance last chosen₀ level d₀ chosen d =
+Inv-loop h whole table me first count distance last chosen₀ level d₀ chosen d =
     (d ≤ last + 1) × (chosen ≡ Nothing)
-    × ((q : ℕ) → q < count → isCandidate (seen h table) (placeOf h me) level q ≡ true → d ≤ (seen h table) .distance (placeOf h me) q)
+    × ((q : ℕ) → q < count → isCandidate (seen h (lent h whole table me)) (placeOf h me) level q ≡ true → d ≤ (seen h (lent h whole table me)) .distance (placeOf h me) q)
 
 abbrev μ-loop : tie.MeasureT-loop
-μ-loop h table me first count distance last chosen₀ level d₀ chosen d = last + 1 - d
+μ-loop h whole table me first count distance last chosen₀ level d₀ chosen d = last + 1 - d
 
 abbrev Inv-search : tie.InvT-search
-Inv-search h table me first count distance last chosen₀ level₀ chosen level =
-    (choiceFrom h (seen h table) (placeOf h me) level ≡ choice h (seen h table) (placeOf h me) first) × (chosen ≡ Nothing)
+Inv-search h whole table me first count distance last chosen₀ level₀ chosen level =
+    (choiceFrom h (seen h (lent h whole table me)) (placeOf h me) level ≡ choice h (seen h (lent h whole table me)) (placeOf h me) first) × (chosen ≡ Nothing)
+    × (first ≤ level)
 
 abbrev μ-search : tie.MeasureT-search
-μ-search h table me first count distance last chosen₀ level₀ chosen level = suc (h .k) - level
+μ-search h whole table me first count distance last chosen₀ level₀ chosen level = suc (h .k) - level
+
+own-part-requires :
+    tie.Need-own-part-requires Inv-loop2 μ-loop2 Inv-loop μ-loop Inv-search μ-search
+own-part-requires c κs = c .before .pre .0
 
 distances-of-requires :
     tie.Need-distances-of-requires Inv-loop2 μ-loop2 Inv-loop μ-loop Inv-search μ-search
@@ -49,10 +55,10 @@ distances-of-requires c κs = search needs
 
 farthest-requires :
     tie.Need-farthest-requires Inv-loop2 μ-loop2 Inv-loop μ-loop Inv-search μ-search
-farthest-requires c κs = count-fits _ _ _ (c .before .before .before .before .pre) _ (c .before .before .distances-of .ensures)
+farthest-requires c κs = count-fits _ _ _ (c .before .before .before .before .before .pre .0) _ (c .before .before .before .own-part .ensures) _ (c .before .before .distances-of .ensures)
 
 search-holds : tie.Need-search-holds Inv-loop2 μ-loop2 Inv-loop μ-loop Inv-search μ-search
-search-holds c = (choice-whole _ _ _ _, refl)
+search-holds c = (choice-whole _ _ _ _, refl, omega arith)
 
 loop-holds : tie.Need-loop-holds Inv-loop2 μ-loop2 Inv-loop μ-loop Inv-search μ-search
 loop-holds c = (omega arith, c .before .before .search .inv .1, λ q l w. omega arith)
@@ -65,11 +71,17 @@ cast-at c = search needs
 
 array-read-is-candidate :
     tie.Need-array-read-is-candidate Inv-loop2 μ-loop2 Inv-loop μ-loop Inv-search μ-search
-array-read-is-candidate c = omega (arith, count-fits _ _ _ (c .before .before .before .before .before .before .before .before .before .before .before .before .pre) _ (c .before .before .before .before .before .before .before .before .before .before .distances-of .ensures))
+array-read-is-candidate c = omega (arith, count-fits _ _ _ (c .before .before .before .before .before .before .before .before .before .before .before .before .before .pre .0) _ (c .before .before .before .before .before .before .before .before .before .before .before .own-part .ensures) _ (c .before .before .before .before .before .before .before .before .before .before .distances-of .ensures))
 
 is-candidate-requires :
     tie.Need-is-candidate-requires Inv-loop2 μ-loop2 Inv-loop μ-loop Inv-search μ-search
-is-candidate-requires c κs = search needs
+is-candidate-requires c κs =
+    let a = c .before .before .before .before .before .before .before .before .before .before .before .before .before in
+    let r = c .before .before .before .before .before .before .before .before .before .before .distances-of in
+    let o = c .before .before .before .before .before .before .before .before .before .before .before .own-part .ensures in
+    let n = count-is _ _ _ (a .pre .0) _ o _ (r .ensures) in
+    let l = c .before .before .before .before .before .before .search .inv .2 in
+    (a .pre .0, record { sound = a .pre .0 .sound; inside = omega (arith, n); low = omega (arith, a .pre .1); high = omega arith })
 
 add-place : tie.Need-add-place Inv-loop2 μ-loop2 Inv-loop μ-loop Inv-search μ-search
 add-place c = omega arith
@@ -79,15 +91,15 @@ loop2-less c = omega arith
 
 loop2-again : tie.Need-loop2-again Inv-loop2 μ-loop2 Inv-loop μ-loop Inv-search μ-search
 loop2-again c =
-    let a = c .before .before .before .before .before .before .before .before .before .before .before .before .before .before in
+    let a = c .before .before .before .before .before .before .before .before .before .before .before .before .before .before .before in
     let l2 = c .before .before .before .loop2 in
     let l1 = c .before .before .before .before .before .loop in
     let f = c .before .before .before .before .before .before .before .before .before .farthest .ensures in
     let z : l2 .place < c .before .before .before .before .before .before .before .before .before .before .before .before .distances-of .result .count = omega arith in
-    let x = distance-is _ _ _ (a .pre) _ (c .before .before .before .before .before .before .before .before .before .before .before .before .distances-of .ensures) (l2 .place) z in (
+    let x = distance-is _ _ _ (a .pre .0) _ (c .before .before .before .before .before .before .before .before .before .before .before .before .before .own-part .ensures) _ (c .before .before .before .before .before .before .before .before .before .before .before .before .distances-of .ensures) (l2 .place) z in (
       omega arith,
       l2 .inv .1,
-      passed-more (seen (a .args .h) (a .args .table .now)) (placeOf (a .args .h) (a .args .me)) (c .before .before .before .before .before .before .before .before .search .level) (l1 .d) (l2 .place) (l2 .inv .2)
+      passed-more (seen (a .args .h) (lent (a .args .h) (a .args .whole) (a .args .table .now) (a .args .me))) (placeOf (a .args .h) (a .args .me)) (c .before .before .before .before .before .before .before .before .search .level) (l1 .d) (l2 .place) (l2 .inv .2)
           (λ w. look-passes _ _ _ _ (l1 .d) (omega (arith, f .0)) _ x _ (c .before .is-candidate .ensures) (c .if2 .left) w (l1 .inv .2 (l2 .place) z w)),
     )
 
@@ -103,25 +115,27 @@ loop-again c =
     (omega arith, l2 .inv .1, λ q l w. omega (arith, l2 .inv .2 q (omega arith) w))
 
 add-level : tie.Need-add-level Inv-loop2 μ-loop2 Inv-loop μ-loop Inv-search μ-search
-add-level c = let v = valid-known _ (c .before .before .before .before .before .before .before .before .before .before .pre .sound) in omega arith
+add-level c = let v = valid-known _ (c .before .before .before .before .before .before .before .before .before .before .before .pre .0 .sound) in omega arith
 
 search-less : tie.Need-search-less Inv-loop2 μ-loop2 Inv-loop μ-loop Inv-search μ-search
 search-less c = omega arith
 
 search-again : tie.Need-search-again Inv-loop2 μ-loop2 Inv-loop μ-loop Inv-search μ-search
 search-again c =
-    let a = c .before .before .before .before .before .before .before .before .before .before in
+    let a = c .before .before .before .before .before .before .before .before .before .before .before in
     let r = c .before .before .before .before .before .before .before .before .distances-of in
+    let o = c .before .before .before .before .before .before .before .before .before .own-part .ensures in
     let f = c .before .before .before .before .before .farthest .ensures in
     let l1 = c .before .loop in
-    let n = count-is _ _ _ (a .pre) _ (r .ensures) in (
+    let n = count-is _ _ _ (a .pre .0) _ o _ (r .ensures) in (
       found-later _ _ _ (omega arith)
-          (none-best (seen (a .args .h) (a .args .table .now)) (placeOf (a .args .h) (a .args .me)) (c .before .before .before .before .search .level) (cellSize (a .args .h)) (λ q k.
+          (none-best (seen (a .args .h) (lent (a .args .h) (a .args .whole) (a .args .table .now) (a .args .me))) (placeOf (a .args .h) (a .args .me)) (c .before .before .before .before .search .level) (cellSize (a .args .h)) (λ q k.
           let z : q < r .result .count = omega (arith, n) in
-          none-behind _ _ _ q _ (l1 .d) _ (distance-is _ _ _ (a .pre) _ (r .ensures) q z) (distance-small _ _ _ (a .pre) _ (r .ensures) q z) (f .1 q z) (omega arith)
+          none-behind _ _ _ q _ (l1 .d) _ (distance-is _ _ _ (a .pre .0) _ o _ (r .ensures) q z) (distance-small _ _ _ (a .pre .0) _ o _ (r .ensures) q z) (f .1 q z) (omega arith)
           (l1 .inv .2 q z)))
           ∙ c .before .before .before .before .search .inv .0,
       l1 .inv .1,
+      omega (arith, c .before .before .before .before .search .inv .2),
     )
 
 returns : tie.Need-returns Inv-loop2 μ-loop2 Inv-loop μ-loop Inv-search μ-search
@@ -129,15 +143,16 @@ returns c = c .before .before .search .inv .1 ∙ sym (sym (c .before .before .s
 
 returns-2 : tie.Need-returns-2 Inv-loop2 μ-loop2 Inv-loop μ-loop Inv-search μ-search
 returns-2 c =
-    let a = c .before .before .before .before .before .before .before .before .before .before .before .before .before .before in
+    let a = c .before .before .before .before .before .before .before .before .before .before .before .before .before .before .before in
     let r = c .before .before .before .before .before .before .before .before .before .before .before .before .distances-of in
+    let o = c .before .before .before .before .before .before .before .before .before .before .before .before .before .own-part .ensures in
     let f = c .before .before .before .before .before .before .before .before .before .farthest .ensures in
     let l1 = c .before .before .before .before .before .loop in
     let l2 = c .before .before .before .loop2 in
-    let n = count-is _ _ _ (a .pre) _ (r .ensures) in
+    let n = count-is _ _ _ (a .pre .0) _ o _ (r .ensures) in
     let z : l2 .place < r .result .count = omega arith in
-    let x = distance-is _ _ _ (a .pre) _ (r .ensures) (l2 .place) z in
-    let w = look-finds (seen (a .args .h) (a .args .table .now)) (placeOf (a .args .h) (a .args .me)) (c .before .before .before .before .before .before .before .before .search .level) (l2 .place) (l1 .d) (omega (arith, f .0)) _ x
+    let x = distance-is _ _ _ (a .pre .0) _ o _ (r .ensures) (l2 .place) z in
+    let w = look-finds (seen (a .args .h) (lent (a .args .h) (a .args .whole) (a .args .table .now) (a .args .me))) (placeOf (a .args .h) (a .args .me)) (c .before .before .before .before .before .before .before .before .search .level) (l2 .place) (l1 .d) (omega (arith, f .0)) _ x
     _ (c .before .is-candidate .ensures) (c .if2 .taken) in
     sym (sym (c .before .before .before .before .before .before .before .before .search .inv .0) ∙ found-here _ _ _ _ _ (omega arith)
     (nearest-best _ _ _ (cellSize (a .args .h)) (l2 .place) (record {
@@ -157,6 +172,7 @@ choose-spec =
     μ-loop
     Inv-search
     μ-search
+    own-part-requires
     distances-of-requires
     farthest-requires
     search-holds

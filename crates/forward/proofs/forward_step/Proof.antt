@@ -1,17 +1,15 @@
 -- `forward::forward_step` meets its contract: what it refuses is refused in order, and what it does not refuse is sound.
-use mathlib.Core.Path.{_≡_, _∙_}
+use mathlib.Core.Path.{_≡_}
 use mathlib.Core.List.{_∷_}
 use native.Mathlib.Omega.{arith}
 use borrow.Author.Needs.{needs}
 use Rattle.hall.specs.Halls.{asksHall}
 use Rattle.hall.specs.Refusals.{refusal}
-use Rattle.ports.specs.Codes.{cellLength}
-use Rattle.ports.specs.Answers.{asksCell}
 use Rattle.hall.proofs.Growth.{some-servers}
 use Rattle.local.specs.Local.{cellSize}
 use Rattle.local.proofs.Sizes.{cell-size}
-use Rattle.local.proofs.Asks.{bytes-are}
-use Rattle.forward.specs.Answers.{asksPacket}
+use Rattle.ends.specs.Tables.{stepLength}
+use Rattle.forward.specs.Answers.{asksLent, asksPacket}
 use Rattle.forward.proofs.CodeAsks.{no-hall, in-hall, step-refused, step-answered, step-sound}
 use Rattle.forward.proofs.forward_step.Statement.{statement}
 use Rattle.forward.proofs.forward_step.Tie as tie
@@ -27,7 +25,7 @@ returns c =
     let a = c .before .before .before .before .args in
     let s = c .before .before .servers-of in
     step-refused (a .h) (a .uid) (a .packet) (a .table .now) 1
-    (no-hall (a .h) (s .result) (s .ensures) (cellLength (a .h) (a .h .b)) (a .table .now) (a .uid) (a .packet) (c .before .if1 .taken))
+    (no-hall (a .h) (s .result) (s .ensures) (stepLength (a .h)) (a .table .now) (a .uid) (a .packet) (c .before .if1 .taken))
     (λ z. omega arith) _ (c .refused-step .ensures)
 
 size-of-requires : tie.Need-size-of-requires
@@ -36,8 +34,8 @@ size-of-requires c κs = search needs
 sized : (c : tie.After-size-of) → c .size-of .result ≡ cellSize (c .before .before .before .before .args .h)
 sized c = cell-size _ _ (some-servers _ _ (c .before .before .servers-of .ensures) (c .before .if1 .left)) (c .size-of .ensures)
 
-bytes-of-requires : tie.Need-bytes-of-requires
-bytes-of-requires c κs = search needs
+step-bytes-requires : tie.Need-step-bytes-requires
+step-bytes-requires c κs = (some-servers _ _ (c .before .before .servers-of .ensures) (c .before .if1 .left), sized c)
 
 refused-requires : tie.Need-refused-requires
 refused-requires c κs = search needs
@@ -45,12 +43,12 @@ refused-requires c κs = search needs
 -- what is refused of the table's length and the packet is what the call refuses
 asked : (c : tie.After-refused)
     → let a = c .before .before .before .before .before .before .args in
-    c .refused .result ≡ refusal (asksHall (a .h) ∷ asksCell (a .h) (a .table .now) ∷ asksPacket (a .h) (a .uid) (a .packet))
+    c .refused .result ≡ refusal (asksHall (a .h) ∷ asksLent (a .h) (a .table .now) ∷ asksPacket (a .h) (a .uid) (a .packet))
 asked c =
     let a = c .before .before .before .before .before .before .args in
     let s = c .before .before .before .before .servers-of in
-    in-hall (a .h) (s .result) (s .ensures) (cellLength (a .h) (a .h .b)) (a .table .now) (a .uid) (a .packet) (c .before .before .before .if1 .left)
-    _ (c .before .bytes-of .ensures ∙ bytes-are (a .h) _ (sized (c .before .before))) _ (c .refused .ensures)
+    in-hall (a .h) (s .result) (s .ensures) (stepLength (a .h)) (a .table .now) (a .uid) (a .packet) (c .before .before .before .if1 .left)
+    _ (c .before .step-bytes .ensures) _ (c .refused .ensures)
 
 refused-step-requires-2 : tie.Need-refused-step-requires-2
 refused-step-requires-2 c κs = search needs
@@ -78,7 +76,7 @@ forward-step-spec =
     refused-step-requires
     returns
     size-of-requires
-    bytes-of-requires
+    step-bytes-requires
     refused-requires
     refused-step-requires-2
     returns-2

@@ -1,7 +1,7 @@
 -- `forward::travel` meets its contract: what is passed so far before what is left is the whole journey, and the TTL falls with each step.
 use native.Mathlib.Omega.{arith}
 use borrow.Author.Needs.{needs}
-use Rattle.forward.proofs.CodeTrips.{Underway, sets-off, part-here, step-is, step-few, ttl-falls, ends-journey, goes-on}
+use Rattle.forward.proofs.CodeTrips.{Underway, sets-off, here-whole, step-few, ttl-falls, ends-journey, goes-on}
 use Rattle.forward.proofs.travel.Statement.{statement}
 use Rattle.forward.proofs.travel.Tie as tie
 
@@ -23,52 +23,49 @@ mul-uids c = let l = c .loop .inv .left in omega arith
 array-write-uids : tie.Need-array-write-uids Inv-loop μ-loop
 array-write-uids c = let l = c .loop .inv .left in omega arith
 
-part-of-requires : tie.Need-part-of-requires Inv-loop μ-loop
-part-of-requires c κs = search needs
-
 step-at-requires : tie.Need-step-at-requires Inv-loop μ-loop
-step-at-requires c κs = part-here _ _ _ _ (c .before .loop .inv .departing) _ (c .part-of .ensures)
+step-at-requires c κs = here-whole _ _ _ _ (c .loop .inv .departing)
 
 add-reroutes : tie.Need-add-reroutes Inv-loop μ-loop
 add-reroutes c =
-    let w = c .before .before .before .loop in
-    let a = c .before .before .before .before .before .before .args in
+    let w = c .before .before .loop in
+    let a = c .before .before .before .before .before .args in
     let d = w .inv .departing in
-    let q = step-is (a .h) (a .table .now) (w .me) (w .p) d _ (c .before .before .part-of .ensures) (c .before .step-at .result) (c .before .step-at .ensures) in
+    let q = c .before .step-at .ensures in
     let f = step-few (a .h) (a .table .now) (w .me) (w .p) d (c .before .step-at .result) q in
     let l = w .inv .left in
     let r = w .inv .few in
     omega arith
 
-cast-t18 : tie.Need-cast-t18 Inv-loop μ-loop
-cast-t18 c = let l = c .before .before .before .before .before .loop .inv .left in omega arith
+cast-t17 : tie.Need-cast-t17 Inv-loop μ-loop
+cast-t17 c = let l = c .before .before .before .before .loop .inv .left in omega arith
 
 returns : tie.Need-returns Inv-loop μ-loop
 returns c =
-    let w = c .before .before .before .before .before .loop in
-    let a = c .before .before .before .before .before .before .before .before .args in
+    let w = c .before .before .before .before .loop in
+    let a = c .before .before .before .before .before .before .before .args in
     let d = w .inv .departing in
-    let q = step-is (a .h) (a .table .now) (w .me) (w .p) d _ (c .before .before .before .before .part-of .ensures) (c .before .before .before .step-at .result) (c .before .before .before .step-at .ensures) in
+    let q = c .before .before .before .step-at .ensures in
     ends-journey (a .h) (a .table .now) (a .source) (a .packet) (w .uids) (w .me) (w .p) (w .reroutes) (w .at) (w .inv) (c .before .before .before .step-at .result) q (c .if1 .taken)
 
 add-at : tie.Need-add-at Inv-loop μ-loop
-add-at c = let l = c .before .before .before .before .before .before .loop .inv .left in omega arith
+add-at c = let l = c .before .before .before .before .before .loop .inv .left in omega arith
 
 loop-less : tie.Need-loop-less Inv-loop μ-loop
 loop-less c =
-    let w = c .before .before .before .before .before .before .loop in
-    let a = c .before .before .before .before .before .before .before .before .before .args in
+    let w = c .before .before .before .before .before .loop in
+    let a = c .before .before .before .before .before .before .before .before .args in
     let d = w .inv .departing in
-    let q = step-is (a .h) (a .table .now) (w .me) (w .p) d _ (c .before .before .before .before .before .part-of .ensures) (c .before .before .before .before .step-at .result) (c .before .before .before .before .step-at .ensures) in
+    let q = c .before .before .before .before .step-at .ensures in
     let f = ttl-falls (a .h) (a .table .now) (w .me) (w .p) d (c .before .before .before .before .step-at .result) q (c .before .if1 .left) in
     omega arith
 
 loop-again : tie.Need-loop-again Inv-loop μ-loop
 loop-again c =
-    let w = c .before .before .before .before .before .before .loop in
-    let a = c .before .before .before .before .before .before .before .before .before .args in
+    let w = c .before .before .before .before .before .loop in
+    let a = c .before .before .before .before .before .before .before .before .args in
     let d = w .inv .departing in
-    let q = step-is (a .h) (a .table .now) (w .me) (w .p) d _ (c .before .before .before .before .before .part-of .ensures) (c .before .before .before .before .step-at .result) (c .before .before .before .before .step-at .ensures) in
+    let q = c .before .before .before .before .step-at .ensures in
     goes-on (a .h) (a .table .now) (a .source) (a .packet) (w .uids) (w .me) (w .p) (w .reroutes) (w .at) (w .inv) (c .before .before .before .before .step-at .result) q (c .before .if1 .left)
 
 pub travel-spec : {M : Type 1} → statement M
@@ -81,10 +78,9 @@ travel-spec =
     loop-holds
     mul-uids
     array-write-uids
-    part-of-requires
     step-at-requires
     add-reroutes
-    cast-t18
+    cast-t17
     returns
     add-at
     loop-less

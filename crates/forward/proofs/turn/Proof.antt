@@ -1,6 +1,6 @@
 -- `forward::turn` meets its contract: it goes by the link and by the choice as the definition does.
 use Rattle.forward.specs.Inside.{turnOf}
-use Rattle.forward.proofs.CodeSteps.{level-low, placed}
+use Rattle.forward.proofs.CodeSteps.{level-low, level-above, placed}
 use borrow.Author.Needs.{needs}
 use Rattle.forward.proofs.turn.Statement.{statement}
 use Rattle.forward.proofs.turn.Tie as tie
@@ -18,7 +18,9 @@ first-level-requires : tie.Need-first-level-requires
 first-level-requires c κs = level-low _ _ _ _ _ (c .before .before .before .before .pre) _ _ _ (c .before .link .given .1)
 
 choose-requires : tie.Need-choose-requires
-choose-requires c κs = c .before .before .before .before .before .pre .standing .here
+choose-requires c κs =
+    let a = c .before .before .before .before .before .pre in
+    (a .standing .here, level-above _ _ _ _ _ a _ _ _ (c .before .before .link .given .1) _ _ (c .first-level .ensures))
 
 enum-told-2 : tie.Need-enum-told-2
 enum-told-2 c = search needs

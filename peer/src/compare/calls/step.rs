@@ -38,11 +38,7 @@ impl Call for Step {
     }
 
     fn count(at: &Near, number: u32, _: &Room<u8>, met: &mut Met) {
-        if number == NONE {
-            let answer = forward::step(at.hall, at.uid, at.packet, &at.codes);
-            met.add(Event::Ending(answer.ending));
-            met.add_step(at.hall, at.uid, &at.packet, &answer);
-        }
+        met.add_near(at, number);
     }
 
     fn rooms(_: &Near, random: &mut Random) -> Room<u8> {

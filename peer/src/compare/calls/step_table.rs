@@ -9,16 +9,16 @@ use super::part::{sound, Input};
 use crate::compare::call::Call;
 use crate::compare::cases::{by_b, Case};
 use crate::compare::events::{Event, Met};
-use crate::compare::inputs::{any_hall, any_uid, edge_servers, sizes};
+use crate::compare::inputs::{any_hall, any_uid, edge_servers};
 use crate::compare::room::Room;
-use crate::compare::tables::{any_byte_table, cell_codes};
+use crate::compare::tables::{any_byte_table, step_codes};
 use crate::compare::texts::FITS;
 use crate::rattle;
 
 /// The most codes of a step's table: 72 servers with four ports and two far ones.
 const MOST_CODES: usize = 432;
 
-/// The call `calls_step_table`.
+/// The call `tbexlum_step_table`.
 pub struct StepTable;
 
 impl Call for StepTable {
@@ -77,24 +77,12 @@ fn with_table(random: &mut Random, hall: Hall, uid: u32) -> Input {
     Input { hall, table, uid }
 }
 
-/// The codes of a step's table in a sound hall, or those supposed.
-fn step_codes(h: Hall) -> usize {
-    let far = sizes(h).map_or(0, |t| t[h.b as usize] * (h.k - h.b));
-    cell_codes(h) + far as usize
-}
-
 #[cfg(test)]
 mod tests {
     use super::*;
 
     #[test]
-    fn the_largest_table_has_432_codes_and_one_of_top_level_b_no_far_ones() {
-        let codes = |n, k, b| step_codes(Hall { n, k, b });
-        assert_eq!(codes(8, 3, 1), MOST_CODES);
-        assert_eq!(
-            [codes(8, 3, 0), codes(2, 2, 0), codes(2, 2, 1)],
-            [56, 10, 24]
-        );
-        assert_eq!([codes(4, 0, 0), codes(4, 1, 1)], [4, 40]);
+    fn the_ample_room_is_that_of_the_largest_table() {
+        assert_eq!(step_codes(Hall { n: 8, k: 3, b: 1 }), MOST_CODES);
     }
 }

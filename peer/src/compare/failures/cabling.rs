@@ -44,6 +44,13 @@ impl Cabling {
         self.neighbours[(uid * self.hall.k + level - 1) as usize]
     }
 
+    /// The level of the link between two servers that are joined: 0 where no cable goes from the one to the other, but a switch joins them.
+    pub fn level(&self, from: u32, to: u32) -> u32 {
+        let mut levels = 1..=self.hall.k;
+        let level = levels.find(|&level| self.neighbour(from, level) == to);
+        level.unwrap_or(0)
+    }
+
     /// The place in the hall table of a server's port.
     pub fn port(&self, uid: u32, level: u32) -> usize {
         (uid * (self.hall.k + 1) + level) as usize
@@ -87,8 +94,10 @@ mod tests {
             for level in 1..=2 {
                 let right = hall::neighbour(hall, uid, level).uid;
                 assert_eq!(cabling.neighbour(uid, level), right);
+                assert_eq!(cabling.level(uid, right), level);
             }
         }
+        assert_eq!(cabling.level(7, 8), 0);
         assert!(cabling.switch(7).eq(6..9));
     }
 

@@ -1,4 +1,4 @@
-//! Hall tables after failures: of servers, of racks, or of cables, drawn at random.
+//! Hall tables after failures: of servers, of racks, of cables, or of one strand of a cable, drawn at random.
 
 use peer::ports::UP;
 use peer::random::Random;
@@ -7,6 +7,8 @@ use super::cabling::{Cable, Cabling};
 
 /// The code of a port that is not up. A step tells code 1 from all others and no more, so one of them stands for all.
 const DOWN: u8 = 2;
+/// The code of a port that hears nothing, as the strand towards it is broken.
+const SILENT: u8 = 3;
 
 /// What fails.
 #[derive(Debug, Clone, Copy, PartialEq, Eq)]
@@ -43,6 +45,27 @@ pub fn damage(cabling: &Cabling, kind: Kind, percent: u32, random: &mut Random) 
     }
     let live = without(cabling.servers, &dead);
     Damage { codes, live }
+}
+
+/// The table of a hall in which one strand of so many in a hundred cables is broken. The cables are those that are cut where links fail,
+/// by the same draws; the end that goes silent is drawn by the coin.
+pub fn strands(cabling: &Cabling, percent: u32, random: &mut Random, coin: &mut Random) -> Damage {
+    let mut codes = vec![UP; cabling.port(cabling.servers, 0)];
+    for cable in drawn(random, cabling.cables(), percent) {
+        codes[silent_end(cabling, cable, coin)] = SILENT;
+    }
+    let live = without(cabling.servers, &[]);
+    Damage { codes, live }
+}
+
+/// The port at the silent end of a cable with a broken strand: that of a server, as a switch has no code, and at either end above level 0.
+fn silent_end(cabling: &Cabling, (uid, level): Cable, coin: &mut Random) -> usize {
+    let end = if level > 0 && coin.once_in(2) {
+        cabling.neighbour(uid, level)
+    } else {
+        uid
+    };
+    cabling.port(end, level)
 }
 
 /// So many in a hundred of the things, rounded, each as likely as any other.
@@ -149,6 +172,52 @@ mod tests {
             .iter()
             .filter(|&&(uid, level)| up(&cabling, &damage, uid, level));
         assert_eq!((cables.len(), whole.count()), (840, 672));
+    }
+
+    #[test]
+    fn a_broken_strand_leaves_the_links_usable_that_a_cut_cable_does() {
+        let cabling = cabling();
+        for percent in [0, 2, 20, 60] {
+            let [mut cut, mut broken] = [(); 2].map(|()| Random::new(6));
+            let links = damage(&cabling, Kind::Links, percent, &mut cut);
+            let strands = strands(&cabling, percent, &mut broken, &mut Random::new(7));
+            assert_eq!(cut, broken);
+            assert_eq!(links.live, strands.live);
+            for uid in 0..cabling.servers {
+                for level in 0..=2 {
+                    let usable = |damage| {
+                        let far = if level == 0 {
+                            uid
+                        } else {
+                            cabling.neighbour(uid, level)
+                        };
+                        up(&cabling, damage, uid, level) && up(&cabling, damage, far, level)
+                    };
+                    assert_eq!(usable(&links), usable(&strands));
+                }
+            }
+        }
+    }
+
+    #[test]
+    fn a_broken_strand_is_silent_at_one_end_and_either_end_is_met() {
+        let cabling = cabling();
+        let damage = strands(&cabling, 20, &mut Random::new(8), &mut Random::new(9));
+        let cables = cabling.cables();
+        let (mut switch, mut ends) = (0, [0; 2]);
+        for &(uid, level) in &cables {
+            let near = damage.codes[cabling.port(uid, level)];
+            if level == 0 {
+                switch += u32::from(near == SILENT);
+                continue;
+            }
+            let far = damage.codes[cabling.port(cabling.neighbour(uid, level), level)];
+            assert!([(UP, UP), (SILENT, UP), (UP, SILENT)].contains(&(near, far)));
+            ends[0] += u32::from(near == SILENT);
+            ends[1] += u32::from(far == SILENT);
+        }
+        assert_eq!((cables.len(), switch + ends[0] + ends[1]), (840, 168));
+        assert!(switch > 50 && ends[0] > 25 && ends[1] > 25, "{ends:?}");
     }
 
     #[test]

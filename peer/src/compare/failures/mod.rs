@@ -1,16 +1,20 @@
-//! Packets through halls in which servers, racks or cables failed: the proved journey beside the paper's figures and beside what any
-//! routing could do at best.
+//! Packets through halls in which servers, racks, cables or strands of cables failed: the proved journey beside the paper's figures,
+//! beside what any routing could do at best, and beside the journey by a near port alone.
 
 mod cabling;
 mod damage;
+mod draw;
 mod search;
+mod strands;
 mod traces;
 
 use peer::hall::Hall;
 use peer::random::Random;
 
 use cabling::Cabling;
-use damage::{damage, Kind};
+use damage::{damage, strands, Damage, Kind};
+use draw::Draw;
+use strands::Strands;
 pub use traces::Side;
 use traces::Traces;
 
@@ -84,38 +88,96 @@ const TABLE_2: [Printed; 5] = [
     (20, [[16.05, 11.01], [12.50, 10.32], [17.90, 11.55]]),
 ];
 
-/// Traces packets through halls with failures and prints what became of them.
-pub fn run(seed: u64, side: Side) {
+/// What sets the coin that tells which end of a broken strand is silent apart from all else that is drawn of a seed.
+const COIN: u64 = 0x5EED_0F7E_57A4_D5ED;
+
+/// Which tables are printed.
+#[derive(Debug, Clone, Copy, PartialEq, Eq)]
+pub enum Tables {
+    All,
+    /// That of broken strands alone.
+    Strands,
+}
+
+/// Traces packets through halls with failures and prints what became of them; answers whether no packet went into a broken strand where
+/// both ends of each link are looked at.
+pub fn run(seed: u64, side: Side, tables: Tables) -> bool {
     println!("seed {seed}");
+    if tables == Tables::Strands {
+        return strand_table(&PLAN, seed, side);
+    }
     let mut random = Random::new(seed);
-    for plan in [PLAN, LARGER] {
-        let cabling = Cabling::of(plan.hall);
-        for (kind, name) in KINDS {
-            head(&plan, name);
-            for &percent in plan.shares {
-                let mut traces = Traces::of(side);
-                trace(&plan, &cabling, (kind, percent), &mut random, &mut traces);
-                println!(
-                    "{}",
-                    row(percent, &traces, printed(plan.hall, kind, percent))
-                );
+    kind_tables(&PLAN, side, &mut random);
+    let held = strand_table(&PLAN, seed, side);
+    kind_tables(&LARGER, side, &mut random);
+    held
+}
+
+/// Prints a table for each kind of failure but that of strands.
+fn kind_tables(plan: &Plan, side: Side, random: &mut Random) {
+    let cabling = Cabling::of(plan.hall);
+    for (kind, name) in KINDS {
+        head(plan, name, &[&["failed %"][..], &SHARES, &LENGTHS].concat());
+        for &percent in plan.shares {
+            let mut traces = Traces::of(side);
+            for _ in 0..plan.tables {
+                traces.add(&cabling, &plan.draw(&cabling, kind, percent, random));
             }
+            println!(
+                "{}",
+                row(percent, &traces, printed(plan.hall, kind, percent))
+            );
         }
     }
 }
 
-/// Adds the packets of one line to its traces.
-fn trace(
-    plan: &Plan,
-    cabling: &Cabling,
-    (kind, percent): (Kind, u32),
-    random: &mut Random,
-    traces: &mut Traces,
-) {
-    for _ in 0..plan.tables {
+/// Prints the table of broken strands; answers whether no packet went into one where both ends are looked at.
+fn strand_table(plan: &Plan, seed: u64, side: Side) -> bool {
+    let cabling = Cabling::of(plan.hall);
+    let mut random = before_links(plan, &cabling, seed);
+    let mut coin = Random::new(seed ^ COIN);
+    head(plan, "broken strands", &strands::COLUMNS);
+    let mut held = true;
+    for &percent in plan.shares {
+        let mut fates = Strands::of(side);
+        for _ in 0..plan.tables {
+            let damage = strands(&cabling, percent, &mut random, &mut coin);
+            fates.add(&cabling, &plan.draw_over(damage, &mut random));
+        }
+        println!("{}", fates.row(percent));
+        if !fates.hold() {
+            eprintln!("{percent} % of strands: a packet went into a broken strand though both ends are looked at");
+            held = false;
+        }
+    }
+    held
+}
+
+/// The generator of a seed as it is before the first table of link failures, so that the same cables are drawn for broken strands.
+fn before_links(plan: &Plan, cabling: &Cabling, seed: u64) -> Random {
+    let mut random = Random::new(seed);
+    let kinds = KINDS.iter().map(|&(kind, _)| kind);
+    for kind in kinds.take_while(|&kind| kind != Kind::Links) {
+        for &percent in plan.shares {
+            for _ in 0..plan.tables {
+                plan.draw(cabling, kind, percent, &mut random);
+            }
+        }
+    }
+    random
+}
+
+impl Plan {
+    /// What is drawn for one table of a line.
+    fn draw(&self, cabling: &Cabling, kind: Kind, percent: u32, random: &mut Random) -> Draw {
         let damage = damage(cabling, kind, percent, random);
-        traces.add(cabling, &damage, plan.packets / plan.tables, random);
-        traces.add_least(cabling, &damage, plan.sources, random);
+        self.draw_over(damage, random)
+    }
+
+    /// What is drawn besides for a table of a line.
+    fn draw_over(&self, damage: Damage, random: &mut Random) -> Draw {
+        let packets = self.packets / self.tables;
+        Draw::over(damage, packets, self.sources, random)
     }
 }
 
@@ -129,11 +191,10 @@ fn printed(h: Hall, kind: Kind, percent: u32) -> Option<[f64; 2]> {
 }
 
 /// Prints what the lines below are of, and the names of the columns.
-fn head(plan: &Plan, name: &str) {
+fn head(plan: &Plan, name: &str, columns: &[&str]) {
     let Hall { n, k, b } = plan.hall;
     let (tables, packets) = (plan.tables, plan.packets);
     println!("\n{name}, n={n} k={k} b={b}, a line: {tables} tables, {packets} packets\n");
-    let columns = [&["failed %"][..], &SHARES, &LENGTHS].concat();
     println!("| {} |", columns.join(" | "));
     println!("|{}", "---|".repeat(columns.len()));
 }
@@ -186,8 +247,7 @@ mod tests {
         let cabling = Cabling::of(Hall { n: 4, k: 2, b: 1 });
         let mut random = Random::new(1);
         let damage = damage(&cabling, Kind::Links, 10, &mut random);
-        traces.add(&cabling, &damage, 100, &mut random);
-        traces.add_least(&cabling, &damage, 1, &mut random);
+        traces.add(&cabling, &Draw::over(damage, 100, 1, &mut random));
         let line = row(10, &traces, Some([1.5, 2.25]));
         let columns: Vec<&str> = line.trim_matches('|').split('|').map(str::trim).collect();
         assert_eq!(columns.len(), 1 + SHARES.len() + LENGTHS.len());
@@ -200,5 +260,42 @@ mod tests {
         assert_eq!(printed(PLAN.hall, Kind::Links, 20), Some([17.90, 11.55]));
         assert_eq!(printed(PLAN.hall, Kind::Links, 6), None);
         assert_eq!(printed(LARGER.hall, Kind::Links, 4), None);
+    }
+
+    /// A plan of few draws.
+    const SMALL: Plan = Plan {
+        hall: Hall { n: 2, k: 3, b: 1 },
+        shares: &[2, 20],
+        tables: 3,
+        packets: 60,
+        sources: 2,
+    };
+
+    #[test]
+    fn strands_are_broken_of_the_cables_that_are_cut_where_links_fail() {
+        let cabling = Cabling::of(SMALL.hall);
+        let mut random = Random::new(7);
+        for kind in [Kind::Servers, Kind::Racks] {
+            for percent in [2, 20] {
+                (0..3).for_each(|_| drop(SMALL.draw(&cabling, kind, percent, &mut random)));
+            }
+        }
+        let mut other = before_links(&SMALL, &cabling, 7);
+        assert_eq!(random, other);
+        let mut coin = Random::new(7 ^ COIN);
+        for &percent in SMALL.shares {
+            let cut = SMALL.draw(&cabling, Kind::Links, percent, &mut random);
+            let broken = strands(&cabling, percent, &mut other, &mut coin);
+            let broken = SMALL.draw_over(broken, &mut other);
+            assert_eq!(cut.packets, broken.packets);
+            assert_eq!(random, other);
+        }
+    }
+
+    #[test]
+    fn the_table_of_broken_strands_holds_for_both_sides() {
+        for side in [Side::Rattle, Side::Peer] {
+            assert!(strand_table(&SMALL, 7, side));
+        }
     }
 }

@@ -1,17 +1,17 @@
 //! What became of the packets between live servers: how their journeys ended, how long they were, and what any routing could have done.
 
 use peer::forward::{self, Packet, DELIVERED, DROP_RETRY, JOURNEY_ROOM, MOST_RETRY};
-use peer::random::Random;
 use peer::refusal;
 
 use super::cabling::Cabling;
 use super::damage::Damage;
+use super::draw::Draw;
 use super::search::{Search, NOT_MET};
 use crate::compare::sums::Sums;
 use crate::rattle;
 
 /// The retry and the TTL of a packet at its source.
-const RETRY: u8 = 5;
+pub const RETRY: u8 = 5;
 const TTL: u8 = 255;
 /// The endings of a journey, by their numbers.
 const ENDINGS: usize = DELIVERED as usize + 1;
@@ -59,7 +59,7 @@ pub struct Traces {
 }
 
 /// The ending, the links and the reroutes of a journey.
-type Answer = [u32; 3];
+pub type Answer = [u32; 3];
 
 impl Trace {
     /// The packets that were not delivered.
@@ -68,12 +68,12 @@ impl Trace {
     }
 
     /// The packets.
-    fn packets(&self) -> u64 {
+    pub fn packets(&self) -> u64 {
         self.endings.iter().sum()
     }
 
     /// Adds a journey.
-    fn add(&mut self, [ending, links, reroutes]: Answer) {
+    pub fn add(&mut self, [ending, links, reroutes]: Answer) {
         self.endings[ending as usize] += 1;
         if ending == DELIVERED {
             self.links.add(links);
@@ -91,12 +91,12 @@ impl Traces {
         }
     }
 
-    /// Adds packets between random live servers of a hall with failures.
-    pub fn add(&mut self, cabling: &Cabling, damage: &Damage, packets: u32, random: &mut Random) {
+    /// Adds the packets of a draw, and the least links from its sources to all that can be reached.
+    pub fn add(&mut self, cabling: &Cabling, draw: &Draw) {
+        let damage = &draw.damage;
         let search = Search::over(cabling, damage);
         let parts = search.parts();
-        for _ in 0..packets {
-            let [source, dst] = two_of(&damage.live, random);
+        for &[source, dst] in &draw.packets {
             self.add_packet(cabling, damage, source, dst);
             let apart = parts[source as usize] != parts[dst as usize];
             self.apart += u64::from(apart);
@@ -104,19 +104,7 @@ impl Traces {
         }
         self.dead += u64::from(cabling.servers) - damage.live.len() as u64;
         self.pairs += u64::from(cabling.servers) - 1;
-    }
-
-    /// Adds the least links from so many random live servers to all that can be reached.
-    pub fn add_least(
-        &mut self,
-        cabling: &Cabling,
-        damage: &Damage,
-        sources: u32,
-        random: &mut Random,
-    ) {
-        let search = Search::over(cabling, damage);
-        for _ in 0..sources {
-            let source = damage.live[random.below(damage.live.len() as u32) as usize];
+        for &source in &draw.sources {
             let distances = search.distances(source).into_iter();
             let met = distances.filter(|&distance| distance != NOT_MET && distance > 0);
             met.for_each(|distance| self.least.add(distance));
@@ -153,16 +141,16 @@ impl Traces {
 }
 
 /// A hall with failures, a packet's source and its destination.
-struct Way<'a> {
-    cabling: &'a Cabling,
-    damage: &'a Damage,
-    source: u32,
-    dst: u32,
+pub struct Way<'a> {
+    pub cabling: &'a Cabling,
+    pub damage: &'a Damage,
+    pub source: u32,
+    pub dst: u32,
 }
 
 impl Way<'_> {
     /// The journey of the packet with a retry.
-    fn journey(&self, side: Side, retry: u8) -> Answer {
+    pub fn journey(&self, side: Side, retry: u8) -> Answer {
         let (hall, codes) = (self.cabling.hall, &self.damage.codes);
         let packet = self.packet(retry);
         if side == Side::Peer {
@@ -175,18 +163,30 @@ impl Way<'_> {
         room
     }
 
-    /// Whether the journey of so many links crosses one of them and, at once, crosses it back.
-    fn turns_back(&self, side: Side, links: u32) -> bool {
+    /// The uids that the journey passes, zeros behind them.
+    pub fn uids(&self, side: Side) -> [u32; JOURNEY_ROOM] {
         let (hall, codes) = (self.cabling.hall, &self.damage.codes);
         let packet = self.packet(RETRY);
         if side == Side::Peer {
-            let answer = forward::journey(hall, self.source, packet, codes);
-            return back_and_forth(&answer.uids[..=links as usize]);
+            return forward::journey(hall, self.source, packet, codes).uids;
         }
         let mut uids = [0; JOURNEY_ROOM];
         let number = rattle::journey(hall, self.source, packet, 0, codes, &mut uids);
         assert_eq!(number, refusal::NONE);
-        back_and_forth(&uids[..=links as usize])
+        uids
+    }
+
+    /// The journey by the near port alone above level b, and the uids that it passes, by the separate implementation.
+    pub fn journey_near_alone(&self) -> (Answer, [u32; JOURNEY_ROOM]) {
+        let (hall, codes) = (self.cabling.hall, &self.damage.codes);
+        let answer = forward::journey_near_alone(hall, self.source, self.packet(RETRY), codes);
+        assert_eq!(answer.refusal, refusal::NONE);
+        ([answer.ending, answer.links, answer.reroutes], answer.uids)
+    }
+
+    /// Whether the journey of so many links crosses one of them and, at once, crosses it back.
+    fn turns_back(&self, side: Side, links: u32) -> bool {
+        back_and_forth(&self.uids(side)[..=links as usize])
     }
 
     /// The packet at its source, without a proxy.
@@ -206,19 +206,12 @@ fn back_and_forth(uids: &[u32]) -> bool {
     uids.windows(3).any(|three| three[0] == three[2])
 }
 
-/// Two different servers of at least two.
-fn two_of(live: &[u32], random: &mut Random) -> [u32; 2] {
-    let count = live.len() as u32;
-    let first = random.below(count);
-    let second = (first + 1 + random.below(count - 1)) % count;
-    [first, second].map(|place| live[place as usize])
-}
-
 #[cfg(test)]
 mod tests {
     use super::super::damage::{damage, Kind};
     use super::*;
     use peer::hall::Hall;
+    use peer::random::Random;
 
     fn cabling() -> Cabling {
         Cabling::of(Hall { n: 4, k: 2, b: 1 })
@@ -230,8 +223,7 @@ mod tests {
         let cabling = cabling();
         let damage = damage(&cabling, kind, percent, &mut random);
         let mut traces = Traces::of(side);
-        traces.add(&cabling, &damage, packets, &mut random);
-        traces.add_least(&cabling, &damage, 5, &mut random);
+        traces.add(&cabling, &Draw::over(damage, packets, 5, &mut random));
         traces
     }
 
@@ -300,15 +292,5 @@ mod tests {
         assert!(back_and_forth(&[1, 2, 3, 2, 4]));
         assert!(!back_and_forth(&[1, 2, 3, 1, 2]));
         assert!(!back_and_forth(&[1]));
-    }
-
-    #[test]
-    fn two_different_servers_are_drawn() {
-        let mut random = Random::new(3);
-        let pairs: Vec<[u32; 2]> = (0..100).map(|_| two_of(&[4, 7, 9], &mut random)).collect();
-        assert!(pairs.iter().all(|[source, dst]| source != dst));
-        assert!([4, 7, 9]
-            .iter()
-            .all(|uid| pairs.iter().any(|pair| pair[1] == *uid)));
     }
 }

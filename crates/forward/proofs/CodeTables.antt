@@ -1,0 +1,142 @@
+-- The two tables that the code has for a step, the one that the step is lent and the whole hall table: from each it reads what is lent.
+use mathlib.Core.Path.{_≡_, refl, sym, _∙_, ap}
+use mathlib.Core.Bool.{Bool, true, false}
+use mathlib.Core.List.{List}
+use Prim.Native.Nat.{ℕ, suc, _+_, _-_, _*_, _/_, _%_, _≤_, _<_}
+use native.Mathlib.Omega.{arith}
+use lib.Dec.{eqb}
+use lib.Arith.{digits-lt}
+use lib.ListN.{length, getD, take, drop, length-take}
+use Rattle.hall.specs.declared.Hall.{Hall}
+use Rattle.hall.specs.Cells.{cell, same, neighbour}
+use Rattle.hall.proofs.Growth.{valid-known}
+use Rattle.ports.specs.Codes.{up, cellLength, run}
+use Rattle.ports.specs.Links.{bothUp}
+use Rattle.ports.proofs.Parts as parts
+use Rattle.local.specs.Local.{cellSize, placeOf, firstOf}
+use Rattle.ends.specs.Tables.{levels, farCount, stepLength, cellPart, farPlace, farIn}
+use Rattle.ends.proofs.Answers.{part-length}
+use Rattle.ends.proofs.Tables.{near-part, step-shared}
+use Rattle.forward.specs.Seen.{usable}
+use Rattle.forward.specs.Inside.{Here, Above, Crossed, lent}
+use Rattle.forward.proofs.Sight.{usable-hall, usable-own}
+
+known : (h : Hall) (table : List ℕ) (me : ℕ) → Here h true table me → parts.Sound h table me
+known h table me a = record { is-valid = a .sound; long = a .long; below = a .fits }
+
+-- what a step is lent is longer than the codes of its DCell(b)
+step-longer : (h : Hall) → cellLength h (h .b) ≤ stepLength h
+unfolding stepLength
+step-longer h = omega arith
+
+pub own-long : (h : Hall) (whole : Bool) (table : List ℕ) (me : ℕ) → Here h whole table me → length (cellPart h (lent h whole table me)) ≡ cellLength h (h .b)
+unfolding cellPart
+own-long h false table me a = omega (arith, length-take (cellLength h (h .b)) table, a .long, step-longer h)
+own-long h true table me a = ap length (near-part h table me (known h table me a)) ∙ part-length h table me (known h table me a)
+
+pub lent-shared : (h : Hall) (whole : Bool) (table : List ℕ) (x y : ℕ) → same (h .n) (h .b) x y ≡ true → lent h whole table x ≡ lent h whole table y
+lent-shared h false table x y e = refl
+lent-shared h true table x y e = step-shared h table x y e
+
+pub own-length : (h : Hall) (whole : Bool) (table : List ℕ) (me : ℕ) → Here h whole table me → whole ≡ false → length table ≡ stepLength h
+own-length h whole table me a w = a .long ∙ rw w
+
+-- the first bytes of what is lent
+module _ (h : Hall) (whole : Bool) (table : List ℕ) (me : ℕ) (a : Here h whole table me) (bytes : ℕ) (e : bytes ≡ cellLength h (h .b)) where
+  pub own-within : whole ≡ false → bytes ≤ length table
+  own-within w = omega (arith, own-length h whole table me a w, step-longer h)
+
+  pub own-first : whole ≡ false → take (bytes - 0) (drop 0 table) ≡ cellPart h (lent h whole table me)
+  unfolding cellPart
+  own-first w = let z : bytes - 0 ≡ cellLength h (h .b) = omega arith in rw (w, z)
+
+  -- the part of the hall table
+  module _ (w : whole ≡ true) (count : ℕ) (size : count ≡ cellSize h) where
+    whole-known : parts.Sound h table me
+    whole-known = known h table me (rw w at a)
+
+    pub part-within : me / count * bytes + bytes ≤ length table
+    unfolding cell cellSize
+    part-within = rw (e, size) (parts.run-within h table me (h .b) whole-known (valid-known h (a .sound) .b-low))
+
+    pub part-first : take (me / count * bytes + bytes - me / count * bytes) (drop (me / count * bytes) table) ≡ cellPart h (lent h whole table me)
+    unfolding run cell cellSize
+    part-first =
+        let d : me / count * bytes + bytes - me / count * bytes ≡ bytes = omega arith in
+        rw (d, w, near-part h table me whole-known, e, size)
+
+-- a link by the table that a step is lent
+module _ (h : Hall) (place level : ℕ) (a : Above h place level) where
+  digit : level - suc (h .b) < levels h
+  digit = let l = a .low in let k = a .high in omega arith
+
+  pub far-below : place * levels h + (level - suc (h .b)) < farCount h
+  unfolding farCount
+  far-below = digits-lt (a .inside) digit
+
+  pub far-at : (bytes : ℕ) → bytes ≡ cellLength h (h .b) → bytes + (place * (h .k - h .b) + (level - h .b - 1)) ≡ farPlace h place level
+  unfolding farPlace
+  far-at bytes e = let d : level - h .b - 1 ≡ level - suc (h .b) = omega arith in rw (e, d)
+
+  pub far-within : (table : List ℕ) → length table ≡ stepLength h → farPlace h place level < length table
+  unfolding farPlace stepLength
+  far-within table l = omega (arith, far-below)
+
+  module _ (table : List ℕ) (near : Bool) (p : near ≡ up h table place level) where
+    pub open-not : near ≡ false → false ≡ usable h table level place
+    unfolding usable
+    open-not e = rw (← p, e)
+
+    pub open-far : near ≡ true → (at : ℕ) → at ≡ farPlace h place level → eqb (getD table at 0) 1 ≡ usable h table level place
+    unfolding usable farIn
+    open-far e at q = rw (← p, e, q)
+
+-- a link by both its ends in the hall table
+module _ (h : Hall) (whole : Bool) (table : List ℕ) (level : ℕ) where
+  pub own-usable : (u count : ℕ) → whole ≡ false → count ≡ cellSize h → usable h table level (u % count) ≡ usable h (lent h whole table u) level (placeOf h u)
+  unfolding placeOf
+  own-usable u count w e = rw (w, e)
+
+  pub own-open : (me place : ℕ) → whole ≡ false → usable h table level place ≡ usable h (lent h whole table me) level place
+  own-open me place w = rw w
+
+  whole-usable : (u v : ℕ) → Crossed h whole table u v level → whole ≡ true → bothUp h table level u v ≡ usable h (lent h whole table u) level (placeOf h u)
+  whole-usable u v a w =
+      ap (bothUp h table level u) (a .leads)
+      ∙ sym (rw w (usable-own h table u (known h table u (rw w at (a .here))) level (a .low) (a .high)))
+
+  whole-open : (me place : ℕ) → Here h whole table me → Above h place level → whole ≡ true
+      → bothUp h table level (firstOf h me + place) (neighbour (h .n) (level - 1) (firstOf h me + place)) ≡ usable h (lent h whole table me) level place
+  whole-open me place a p w =
+      sym (rw w (usable-hall h table me (known h table me (rw w at a)) level place (p .inside) (p .low) (p .high)))
+
+  -- the near end decides where it is not up, else the far one
+  module _ (u v : ℕ) (near : Bool) (p : near ≡ up h table u level) where
+    by-near : near ≡ false → false ≡ bothUp h table level u v
+    unfolding bothUp
+    by-near e = rw (← p, e)
+
+    by-far : near ≡ true → (r : Bool) → r ≡ up h table v level → r ≡ bothUp h table level u v
+    unfolding bothUp
+    by-far e r q = q ∙ rw (← p, e)
+
+  module _ (u v : ℕ) (a : Crossed h whole table u v level) (w : whole ≡ true) (near : Bool) (p : near ≡ up h table u level) where
+    pub near-closed : near ≡ false → false ≡ usable h (lent h whole table u) level (placeOf h u)
+    near-closed e = by-near u v near p e ∙ whole-usable u v a w
+
+    pub far-decides : near ≡ true → (r : Bool) → r ≡ up h table v level → r ≡ usable h (lent h whole table u) level (placeOf h u)
+    far-decides e r q = by-far u v near p e r q ∙ whole-usable u v a w
+
+  module _ (me place : ℕ) (a : Here h whole table me) (b : Above h place level) (w : whole ≡ true) (u : ℕ) (is : u ≡ firstOf h me + place)
+      (near : Bool) (p : near ≡ up h table u level) where
+    pub place-closed : near ≡ false → false ≡ usable h (lent h whole table me) level place
+    place-closed e =
+        by-near (firstOf h me + place) (neighbour (h .n) (level - 1) (firstOf h me + place)) near (p ∙ ap (λ (x : ℕ). up h table x level) is) e
+        ∙ whole-open me place a b w
+
+    pub neighbour-decides : near ≡ true → (v : ℕ) → v ≡ neighbour (h .n) (level - 1) (firstOf h me + place) → (r : Bool) → r ≡ up h table v level
+        → r ≡ usable h (lent h whole table me) level place
+    neighbour-decides e v f r q =
+        by-far (firstOf h me + place) (neighbour (h .n) (level - 1) (firstOf h me + place)) near (p ∙ ap (λ (x : ℕ). up h table x level) is) e r
+        (q ∙ ap (λ (x : ℕ). up h table x level) f)
+        ∙ whole-open me place a b w
