@@ -9,27 +9,37 @@ use native.Mathlib.Nat.{mod-lt, div-lt-iff-lt-mul}
 use native.Mathlib.Omega.{arith}
 use lib.Dec.{eqb, ltb}
 use lib.Arith.{digits-lt, digits-div, digits-mod}
-use lib.ListN.{length, getD, take, drop, length-append, length-take, length-drop, List·getD-append, List·getD-eq-default}
+use lib.ListN.{length, getD, take, drop, length-take, length-drop, List·getD-append, List·getD-eq-default}
 use lib.Seq.{getD-append-add, take-at}
 use borrow.Author.Tests.{ltb-true, ltb-false}
 use Rattle.combine.specs.Lists.{upTo}
 use Rattle.combine.proofs.Tests.{cases}
 use Rattle.combine.proofs.Lists.{length-upTo, getD-upTo, upTo-cong}
 use Rattle.hall.specs.declared.Hall.{Hall}
-use Rattle.hall.specs.Cells.{cell, same, neighbour}
-use Rattle.hall.specs.Halls.{servers}
+use Rattle.hall.specs.Cells.{same, neighbour}
 use Rattle.hall.proofs.Cells.{same-eq}
-use Rattle.hall.proofs.Growth.{Valid, valid-known}
-use Rattle.hall.proofs.Links.{neighbour-in}
-use Rattle.ports.specs.Codes.{up, tableLength, cellLength, run, part, SameUps, EveryUp}
+use Rattle.ports.specs.Codes.{up, cellLength, run, part, SameUps}
 use Rattle.ports.proofs.Parts.{Sound}
-use Rattle.ports.proofs.Runs.{run-agrees, every-up, run-every}
-use Rattle.ports.proofs.Tables.{up-agrees, up-is-one}
+use Rattle.ports.proofs.Runs.{run-agrees}
+use Rattle.ports.proofs.Tables.{up-agrees}
 use Rattle.local.specs.Local.{cellSize, firstOf}
-use Rattle.local.proofs.Uids.{first-shared, uid-within}
-use Rattle.ends.specs.Tables.{levels, farCount, farCode, farAt, stepTable, cellPart, farPlace, farIn}
+use Rattle.local.proofs.Uids.{first-shared}
+use Rattle.ends.specs.Tables.{levels, farCount, stepLength, farCode, farAt, stepTable, cellPart, farPlace, farIn}
 use Rattle.ends.proofs.Codes.{some-level}
 use Rattle.ends.proofs.Answers.{part-length}
+
+-- where the far code for a place of the cell and a level above b stands among the far codes, and in a table of a step's length
+module _ (h : Hall) (place i : ℕ) (l : place < cellSize h) (low : h .b < i) (high : i ≤ h .k) where
+  digit : i - suc (h .b) < levels h
+  digit = omega arith
+
+  pub far-below : place * levels h + (i - suc (h .b)) < farCount h
+  unfolding farCount
+  far-below = digits-lt l digit
+
+  pub far-within : (lent : List ℕ) → length lent ≡ stepLength h → farPlace h place i < length lent
+  unfolding farPlace stepLength
+  far-within lent e = omega (arith, far-below)
 
 module _ (h : Hall) (table : List ℕ) (me : ℕ) (s : Sound h table me) where
   -- the present bytes are the part
@@ -39,25 +49,18 @@ module _ (h : Hall) (table : List ℕ) (me : ℕ) (s : Sound h table me) where
 
   -- the far code that is read is the hall table's code of the far port
   module _ (place i : ℕ) (l : place < cellSize h) (low : h .b < i) (high : i ≤ h .k) where
-    digit : i - suc (h .b) < levels h
-    digit = omega arith
-
-    counted : place * levels h + (i - suc (h .b)) < farCount h
-    unfolding farCount
-    counted = digits-lt l digit
-
     at-place : farAt h table me (place * levels h + (i - suc (h .b))) ≡ farCode h table (firstOf h me + place) i
     unfolding farAt
     at-place =
         let e : suc (h .b) + (i - suc (h .b)) ≡ i = omega arith in
-        rw (digits-mod place digit, digits-div place digit, e)
+        rw (digits-mod place (digit h place i l low high), digits-div place (digit h place i l low high), e)
 
     pub far-in : farIn h (stepTable h table me) place i ≡ farCode h table (firstOf h me + place) i
     unfolding farIn farPlace stepTable
     far-in =
         rw (← part-length h table me s)
         (getD-append-add {A = ℕ} (part h table me) (upTo (farAt h table me) (farCount h)) (place * levels h + (i - suc (h .b))) 0
-        ∙ getD-upTo (farAt h table me) (farCount h) (place * levels h + (i - suc (h .b))) 0 counted
+        ∙ getD-upTo (farAt h table me) (farCount h) (place * levels h + (i - suc (h .b))) 0 (far-below h place i l low high)
         ∙ at-place)
 
 -- the servers of a cell are lent one table
@@ -117,32 +120,3 @@ module _ (h : Hall) (a b : List ℕ) (me : ℕ) where
   step-ups e s =
       append-agrees (part h a me) (part h b me) (upTo (farAt h a me) (farCount h)) (upTo (farAt h b me) (farCount h))
       (parts-long e) (run-agrees h a b (h .b) me s) (upTo-agrees (farAt h a me) (farAt h b me) (farCount h) (far-agree s))
-
--- with every port up every byte of a step's table is 1
-module _ (h : Hall) (table : List ℕ) (me : ℕ) (s : Sound h table me) (all : EveryUp table) where
-  known : Valid h
-  known = valid-known h (s .is-valid)
-
-  far-up : (q : ℕ) → q < farCount h → farAt h table me q ≡ 1
-  unfolding farAt farCode up servers tableLength
-  far-up q l =
-      let w = some-level h q l in
-      let i : suc (h .b) + q % levels h ≤ h .k = omega (arith, mod-lt q w) in
-      let x : ℕ = firstOf h me + q / levels h in
-      let x-in : x < servers h = uid-within h me (q / levels h) known (s .below) (unfold farCount in (div-lt-iff-lt-mul w .1 l)) in
-      let y-in = neighbour-in (h .n) (omega (arith, known .n-low)) (suc (h .b) + q % levels h - 1) (h .k) x (omega arith) x-in in
-      up-is-one h table (neighbour (h .n) (suc (h .b) + q % levels h - 1) x) (suc (h .b) + q % levels h)
-      (every-up h table (servers h) all (s .long) (neighbour (h .n) (suc (h .b) + q % levels h - 1) x) (suc (h .b) + q % levels h) y-in i)
-
-  pub step-every : EveryUp (stepTable h table me)
-  unfolding EveryUp stepTable
-  step-every v l = cases (ltb v (length (part h table me)))
-      (λ q. let k = ltb-true v (length (part h table me)) q in
-      List·getD-append {A = ℕ} (part h table me) (upTo (farAt h table me) (farCount h)) 0 v k ∙ run-every h table (h .b) me all s (known .b-low) v k)
-      (λ q. let k = ltb-false v (length (part h table me)) q in
-      let e : v ≡ length (part h table me) + (v - length (part h table me)) = omega arith in
-      let f : v - length (part h table me) < farCount h = omega (arith, length-append (part h table me) (upTo (farAt h table me) (farCount h)), length-upTo (farAt h table me) (farCount h)) in
-      ap (λ (m : ℕ). getD (part h table me ++ upTo (farAt h table me) (farCount h)) m 0) e
-      ∙ getD-append-add {A = ℕ} (part h table me) (upTo (farAt h table me) (farCount h)) (v - length (part h table me)) 0
-      ∙ getD-upTo (farAt h table me) (farCount h) (v - length (part h table me)) 0 f
-      ∙ far-up (v - length (part h table me)) f)

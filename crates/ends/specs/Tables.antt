@@ -1,5 +1,5 @@
--- The table that a step is lent once it knows the codes of both ends: the part of its server's DCell(b), and behind it the far port's code
--- for each server of the cell in uid order and each level from b+1 to k.
+-- The table that a step is lent: the part of its server's DCell(b), and behind it the far port's code for each server of the cell in uid order
+-- and each level from b+1 to k.
 -- Section "Port codes"; request K3.
 use mathlib.Core.List.{List, _++_}
 use Prim.Native.Nat.{ℕ, suc, _+_, _-_, _*_, _/_, _%_}

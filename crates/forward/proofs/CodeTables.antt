@@ -5,18 +5,18 @@ use mathlib.Core.List.{List}
 use Prim.Native.Nat.{ℕ, suc, _+_, _-_, _*_, _/_, _%_, _≤_, _<_}
 use native.Mathlib.Omega.{arith}
 use lib.Dec.{eqb}
-use lib.Arith.{digits-lt}
 use lib.ListN.{length, getD, take, drop, length-take}
+use Rattle.combine.specs.Tests.{both}
 use Rattle.hall.specs.declared.Hall.{Hall}
-use Rattle.hall.specs.Cells.{cell, same, neighbour}
-use Rattle.hall.proofs.Growth.{valid-known}
-use Rattle.ports.specs.Codes.{up, cellLength, run}
+use Rattle.hall.specs.Cells.{same, neighbour}
+use Rattle.ports.specs.Codes.{isUp, up, cellLength}
 use Rattle.ports.specs.Links.{bothUp}
 use Rattle.ports.proofs.Parts as parts
 use Rattle.local.specs.Local.{cellSize, placeOf, firstOf}
+use Rattle.local.proofs.Asks.{bytes-are}
 use Rattle.ends.specs.Tables.{levels, farCount, stepLength, cellPart, farPlace, farIn}
 use Rattle.ends.proofs.Answers.{part-length}
-use Rattle.ends.proofs.Tables.{near-part, step-shared}
+use Rattle.ends.proofs.Tables.{near-part, far-below, far-within, step-shared}
 use Rattle.forward.specs.Seen.{usable}
 use Rattle.forward.specs.Inside.{Here, Above, Crossed, lent}
 use Rattle.forward.proofs.Sight.{usable-hall, usable-own}
@@ -55,41 +55,44 @@ module _ (h : Hall) (whole : Bool) (table : List ℕ) (me : ℕ) (a : Here h who
     whole-known : parts.Sound h table me
     whole-known = known h table me (rw w at a)
 
+    wide : bytes ≡ count * (h .k + 1)
+    wide = e ∙ sym (bytes-are h count size)
+
     pub part-within : me / count * bytes + bytes ≤ length table
-    unfolding cell cellSize
-    part-within = rw (e, size) (parts.run-within h table me (h .b) whole-known (valid-known h (a .sound) .b-low))
+    unfolding cellSize
+    part-within = parts.taken-within h table me whole-known count bytes size wide
 
     pub part-first : take (me / count * bytes + bytes - me / count * bytes) (drop (me / count * bytes) table) ≡ cellPart h (lent h whole table me)
-    unfolding run cell cellSize
-    part-first =
-        let d : me / count * bytes + bytes - me / count * bytes ≡ bytes = omega arith in
-        rw (d, w, near-part h table me whole-known, e, size)
+    unfolding cellSize
+    part-first = parts.taken-is h table me whole-known count bytes size wide ∙ rw w (sym (near-part h table me whole-known))
+
+-- of two tests in turn the first decides where it does not hold, else the second
+first-decides : (a b near : Bool) → near ≡ a → near ≡ false → false ≡ both a b
+first-decides a b near p e = rw (← p, e)
+
+second-decides : (a b near far : Bool) → near ≡ a → near ≡ true → far ≡ b → far ≡ both a b
+second-decides a b near far p e q = q ∙ rw (← p, e)
 
 -- a link by the table that a step is lent
 module _ (h : Hall) (place level : ℕ) (a : Above h place level) where
-  digit : level - suc (h .b) < levels h
-  digit = let l = a .low in let k = a .high in omega arith
-
-  pub far-below : place * levels h + (level - suc (h .b)) < farCount h
-  unfolding farCount
-  far-below = digits-lt (a .inside) digit
+  pub far-first : place * levels h + (level - suc (h .b)) < farCount h
+  far-first = far-below h place level (a .inside) (a .low) (a .high)
 
   pub far-at : (bytes : ℕ) → bytes ≡ cellLength h (h .b) → bytes + (place * (h .k - h .b) + (level - h .b - 1)) ≡ farPlace h place level
   unfolding farPlace
   far-at bytes e = let d : level - h .b - 1 ≡ level - suc (h .b) = omega arith in rw (e, d)
 
-  pub far-within : (table : List ℕ) → length table ≡ stepLength h → farPlace h place level < length table
-  unfolding farPlace stepLength
-  far-within table l = omega (arith, far-below)
+  pub far-there : (table : List ℕ) → length table ≡ stepLength h → farPlace h place level < length table
+  far-there = far-within h place level (a .inside) (a .low) (a .high)
 
   module _ (table : List ℕ) (near : Bool) (p : near ≡ up h table place level) where
     pub open-not : near ≡ false → false ≡ usable h table level place
     unfolding usable
-    open-not e = rw (← p, e)
+    open-not e = first-decides (up h table place level) (isUp (farIn h table place level)) near p e
 
     pub open-far : near ≡ true → (at : ℕ) → at ≡ farPlace h place level → eqb (getD table at 0) 1 ≡ usable h table level place
     unfolding usable farIn
-    open-far e at q = rw (← p, e, q)
+    open-far e at q = second-decides (up h table place level) (isUp (farIn h table place level)) near (eqb (getD table at 0) 1) p e (rw q)
 
 -- a link by both its ends in the hall table
 module _ (h : Hall) (whole : Bool) (table : List ℕ) (level : ℕ) where
@@ -114,11 +117,11 @@ module _ (h : Hall) (whole : Bool) (table : List ℕ) (level : ℕ) where
   module _ (u v : ℕ) (near : Bool) (p : near ≡ up h table u level) where
     by-near : near ≡ false → false ≡ bothUp h table level u v
     unfolding bothUp
-    by-near e = rw (← p, e)
+    by-near e = first-decides (up h table u level) (up h table v level) near p e
 
     by-far : near ≡ true → (r : Bool) → r ≡ up h table v level → r ≡ bothUp h table level u v
     unfolding bothUp
-    by-far e r q = q ∙ rw (← p, e)
+    by-far e r q = second-decides (up h table u level) (up h table v level) near r p e q
 
   module _ (u v : ℕ) (a : Crossed h whole table u v level) (w : whole ≡ true) (near : Bool) (p : near ≡ up h table u level) where
     pub near-closed : near ≡ false → false ≡ usable h (lent h whole table u) level (placeOf h u)

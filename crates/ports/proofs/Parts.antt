@@ -17,7 +17,7 @@ use Rattle.hall.specs.Halls.{places, valid, servers, asksHall, asksUid}
 use Rattle.hall.specs.Refusals.{refusal, inOrder, bad-hall, bad-length, bad-uid, bad-code}
 use Rattle.hall.proofs.Asks.{refusal-in-order, unrefused-hold}
 use Rattle.hall.proofs.Growth.{valid-known, valid-pos, valid-size, valid-servers, some-servers}
-use Rattle.ports.specs.Codes.{largest-table, allKnown, firstUnknown, tableLength, cellLength, run}
+use Rattle.ports.specs.Codes.{largest-table, allKnown, firstUnknown, tableLength, cellLength, run, part}
 use Rattle.ports.specs.Answers.{asksTable, checkOf, partRefusal, partOf}
 use Rattle.ports.specs.declared.TableCheck.{TableCheck}
 use Rattle.ports.proofs.Tables.{all-known, some-unknown}
@@ -65,6 +65,16 @@ run-within h table u i s l =
     let v = valid-known h (s .is-valid) in
     let c = cell-within (h .n) i (h .k) u (valid-pos h v i) l (s .below) in
     rw (s .long) (omega (arith, mul-le-mul-right (h .k + 1) c))
+
+-- and for a server's DCell(b) it is what stands between two places, as code works them out
+module _ (h : Hall) (table : List ℕ) (u : ℕ) (s : Sound h table u) (count bytes : ℕ) (size : count ≡ t (h .n) (h .b)) (wide : bytes ≡ count * (h .k + 1)) where
+  pub taken-within : u / count * bytes + bytes ≤ length table
+  unfolding cell cellLength
+  taken-within = rw (wide, size) (run-within h table u (h .b) s (valid-known h (s .is-valid) .b-low))
+
+  pub taken-is : take (u / count * bytes + bytes - u / count * bytes) (drop (u / count * bytes) table) ≡ part h table u
+  unfolding run cell cellLength
+  taken-is = let d : u / count * bytes + bytes - u / count * bytes ≡ bytes = omega arith in rw (d, wide, size)
 
 -- the bytes that a hall table has, from the servers of the hall as the code has them
 pub bytes-are : (h : Hall) (r s : ℕ) → r ≡ pick (valid h) (servers h) 0 → (r ≡ 0 → ⊥) → s ≡ r * (h .k + 1) → s ≡ tableLength h
@@ -137,11 +147,7 @@ module _ (h : Hall) (table : List ℕ) where
 
       module _ (wide : bytes ≡ count * (h .k + 1)) where
         pub part-within : u / count * bytes + bytes ≤ length table
-        unfolding cell cellLength
-        part-within = rw (wide, size) (run-within h table u (h .b) part-sound (valid-known h (part-sound .is-valid) .b-low))
+        part-within = taken-within h table u part-sound count bytes size wide
 
         pub part-is : take (u / count * bytes + bytes - u / count * bytes) (drop (u / count * bytes) table) ≡ partOf h table u
-        unfolding run cell cellLength
-        part-is =
-            let d : u / count * bytes + bytes - u / count * bytes ≡ bytes = omega arith in
-            rw (d, ← e, z, wide, size)
+        part-is = taken-is h table u part-sound count bytes size wide ∙ rw (← e, z)

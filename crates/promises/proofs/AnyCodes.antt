@@ -30,15 +30,26 @@ use Rattle.forward.proofs.Trips.{tidied-dst, tidied-ttl, tidied-retry, trip-tra
 use Rattle.forward.proofs.Hops.{Forwards, step-forwards}
 use Rattle.forward.proofs.Sight.{seen-links, usable-own}
 use Rattle.promises.specs.Journeys.{Usable}
+use Rattle.promises.specs.Journeys as journeys
 use Rattle.promises.specs.AnyCodes.{Means, means-delivered, means-ttl, means-route, means-retry, means-proxy, AnyCodes, RetrySpent}
 
 pub tidied-fits : (h : Hall) (p : Packet) → Fits h p → Fits h (tidied p)
 tidied-fits h p f =
     pick-ways (Fits h) (p .«has_proxy») p (cleared p) (λ e. f) (λ e. record { dst-in = f .dst-in; proxy-in = λ q. never q refl })
 
+-- a server of the hall with a packet of the hall: so a journey that is not refused sets out
+abbrev pub Stands : Hall → ℕ → Packet → Type 0
+Stands h me p = (me < servers h) × Fits h p
+
+pub departs : (h : Hall) (table : List ℕ) (source : ℕ) (p : Packet) → journeys.Sound h table source p → Stands h source p
+departs h table source p s = (s .source-in, record { dst-in = s .dst-in; proxy-in = s .proxy-in })
+
 module _ (h : Hall) (table : List ℕ) (is-valid : valid h ≡ true) (long : length table ≡ tableLength h) where
   known : Valid h
   known = valid-known h is-valid
+
+  pub known-at : (me : ℕ) → me < servers h → Sound h table me
+  known-at me here = record { is-valid = is-valid; long = long; below = here }
 
   -- the links of a server's cell, by the table that it is lent
   abbrev Own : ℕ → ℕ → ℕ → Type 0
@@ -46,29 +57,25 @@ module _ (h : Hall) (table : List ℕ) (is-valid : valid h ≡ true) (long : len
 
   hop-usable : (me next : ℕ) → me < servers h → Hop h (sight h table me) (Own me) me next → Usable h table me next
   hop-usable me next here (inside place l e j) =
-      let s : Sound h table me = record { is-valid = is-valid; long = long; below = here } in
+      let s = known-at me here in
       let w : linked h (part h table me) (placeOf h me) place ≡ true = ap (λ (cell : List ℕ). linked h cell (placeOf h me) place) (sym (near-part h table me s)) ∙ j in
       joined-more h table me next (h .b) (h .k) (known .b-low) (rw e (sym (linked-hall h table me place known l) ∙ w))
   hop-usable me next here (over j low high e u) =
-      let s : Sound h table me = record { is-valid = is-valid; long = long; below = here } in
+      let s = known-at me here in
       let q : suc j - 1 ≡ j = omega arith in
       let w : bothUp h table (suc j) me next ≡ true =
       ap (bothUp h table (suc j) me) (sym (ap (λ (i : ℕ). neighbour (h .n) i me) q ∙ e)) ∙ sym (usable-own h table me s (suc j) (omega arith) high) ∙ u in
       joined-more h table me next (suc j) (h .k) high (joined-at h table me next j e w)
 
-  -- a server of the hall with a packet of the hall
-  abbrev Stands : ℕ → Packet → Type 0
-  Stands me p = (me < servers h) × Fits h p
-
-  forwards : (me : ℕ) (p : Packet) → Stands me p → stepAt h table me p .ending ≡ forwarded
+  forwards : (me : ℕ) (p : Packet) → Stands h me p → stepAt h table me p .ending ≡ forwarded
       → Forwards h (sight h table me) (Own me) (seen-links h (stepTable h table me) known) is-valid me (stepAt h table me p)
   forwards me p k e =
       step-forwards h (sight h table me) (Own me) (seen-links h (stepTable h table me) known) is-valid me (tidied p) (k .0) (tidied-fits h p (k .1)) e
 
-  pub stands-on : (me : ℕ) (p : Packet) → Stands me p → stepAt h table me p .ending ≡ forwarded → Stands (stepAt h table me p .next) (stepAt h table me p .packet)
+  pub stands-on : (me : ℕ) (p : Packet) → Stands h me p → stepAt h table me p .ending ≡ forwarded → Stands h (stepAt h table me p .next) (stepAt h table me p .packet)
   stands-on me p k e = let f = forwards me p k e in (f .inside-hall, f .packet-fits)
 
-  pub hops-usable : (me : ℕ) (p : Packet) → Stands me p → stepAt h table me p .ending ≡ forwarded → Usable h table me (stepAt h table me p .next)
+  pub hops-usable : (me : ℕ) (p : Packet) → Stands h me p → stepAt h table me p .ending ≡ forwarded → Usable h table me (stepAt h table me p .next)
   hops-usable me p k e = hop-usable me (stepAt h table me p .next) (k .0) (forwards me p k e .hop)
 
 -- what the ending of a step means
@@ -99,8 +106,8 @@ any-codes h table source p s =
         means = means h table (l .at) (l .came) (trip-ending h table w) (l .ends-it);
       };
       links-usable =
-          each-hop h table (Stands h table (s .hall-valid) (s .table-long)) (Usable h table) (stands-on h table (s .hall-valid) (s .table-long)) (hops-usable h table (s .hall-valid) (s .table-long))
-          w (s .source-in, record { dst-in = s .dst-in; proxy-in = s .proxy-in });
+          each-hop h table (Stands h) (Usable h table) (stands-on h table (s .hall-valid) (s .table-long)) (hops-usable h table (s .hall-valid) (s .table-long))
+          w (departs h table source p s);
       links-few = links-within h table w;
       reroutes-few = reroutes-within h table w;
     }

@@ -2,21 +2,32 @@
 -- changes with every port up.
 -- Sections "Port codes" and "One forwarding step".
 use mathlib.Core.Path.{_≡_}
+use mathlib.Core.Bool.{true}
 use mathlib.Core.List.{List}
-use Prim.Native.Nat.{ℕ, _+_, _≤_, _<_}
+use Prim.Native.Nat.{ℕ, _+_, _-_, _≤_, _<_}
+use lib.ListN.{length}
 use Rattle.hall.specs.declared.Hall.{Hall}
-use Rattle.hall.specs.Cells.{lowest}
+use Rattle.hall.specs.Cells.{neighbour, lowest}
+use Rattle.hall.specs.Halls.{valid, servers}
 use Rattle.hall.specs.Refusals.{most-retry}
-use Rattle.ports.specs.Codes.{code-up, codeOf, part, SameUps, EveryUp}
+use Rattle.ports.specs.Codes.{code-up, codeOf, tableLength, part, SameUps, EveryUp}
+use Rattle.ports.specs.Links.{bothUp}
 use Rattle.route.specs.Routes.{hops}
 use Rattle.route.specs.Walks.{Each}
 use Rattle.local.specs.Local.{cellSize, firstOf}
 use Rattle.ends.specs.Tables.{farCode, stepTable}
 use Rattle.forward.specs.declared.Packet.{Packet}
+use Rattle.forward.specs.Seen.{usable}
 use Rattle.forward.specs.Answers.{stepOf}
 use Rattle.forward.specs.Journeys.{stepAt, trip}
 use Rattle.forward.specs.Before.{stepBefore, tripBefore}
 use Rattle.promises.specs.Journeys.{Sound}
+
+-- by the table that a server is lent, a link above b is usable exactly where both its end ports are up in the hall table
+abbrev pub UsableByBoth : Type 0
+UsableByBoth = (h : Hall) (table : List ℕ) (me place i : ℕ) → valid h ≡ true → length table ≡ tableLength h → me < servers h
+    → place < cellSize h → h .b < i → i ≤ h .k
+    → usable h (stepTable h table me) i place ≡ bothUp h table i (firstOf h me + place) (neighbour (h .n) (i - 1) (firstOf h me + place))
 
 -- both end ports of the link between u and v have code 1: the ports of its level, which is the lowest that holds both
 abbrev pub EndsUp : Hall → List ℕ → ℕ → ℕ → Type 0

@@ -50,6 +50,13 @@ module _ (n : ℕ) where
       (λ r. let g = leb-false (lowest n l x y) j q in let k = leb-true (lowest n l x y) (suc j) r in omega arith)
       (λ r. never s (lowest-least l x y (suc j) (leb-false (lowest n l x y) (suc j) r))))
 
+  -- and that of two servers of one switch is 0
+  pub lowest-switch : (l x y : ℕ) → same n 0 x y ≡ true → lowest n l x y ≡ 0
+  lowest-switch l x y s =
+      cases (leb (lowest n l x y) 0)
+      (λ e. omega (arith, leb-true (lowest n l x y) 0 e))
+      (λ e. never s (lowest-least l x y 0 (leb-false (lowest n l x y) 0 e)))
+
   -- the lowest level is above b exactly where they are in two DCells of level b
   pub lowest-above : (l x y b : ℕ) → same n l x y ≡ true → ltb b (lowest n l x y) ≡ not (same n b x y)
   lowest-above l x y b s = cases (leb (lowest n l x y) b)

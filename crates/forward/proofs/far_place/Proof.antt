@@ -6,7 +6,7 @@ use Rattle.ports.specs.Codes.{cellLength}
 use Rattle.local.proofs.Sizes.{cell-size}
 use Rattle.local.proofs.Asks.{bytes-are}
 use Rattle.ends.proofs.Codes.{far-few, cell-bytes}
-use Rattle.forward.proofs.CodeTables.{far-below, far-at}
+use Rattle.forward.proofs.CodeTables.{far-first, far-at}
 use Rattle.forward.proofs.far_place.Statement.{statement}
 use Rattle.forward.proofs.far_place.Tie as tie
 
@@ -14,7 +14,7 @@ sub-far : tie.Need-sub-far
 sub-far c = search needs
 
 mul-far : tie.Need-mul-far
-mul-far c = let a = c .before .pre in omega (arith, far-few _ (a .sound), far-below _ _ _ a)
+mul-far c = let a = c .before .pre in omega (arith, far-few _ (a .sound), far-first _ _ _ a)
 
 sub-far-2 : tie.Need-sub-far-2
 sub-far-2 c = search needs
@@ -23,7 +23,7 @@ sub-far-3 : tie.Need-sub-far-3
 sub-far-3 c = search needs
 
 add-far : tie.Need-add-far
-add-far c = let a = c .before .before .pre in omega (arith, far-few _ (a .sound), far-below _ _ _ a)
+add-far c = let a = c .before .before .pre in omega (arith, far-few _ (a .sound), far-first _ _ _ a)
 
 size-of-requires : tie.Need-size-of-requires
 size-of-requires c κs = search needs
@@ -37,10 +37,10 @@ long c =
     c .bytes-of .ensures ∙ bytes-are (a .args .h) _ (cell-size _ _ (a .pre .sound) (c .before .size-of .ensures))
 
 cast-result : tie.Need-cast-result
-cast-result c = let a = c .before .before .before .before .pre in omega (arith, far-few _ (a .sound), far-below _ _ _ a)
+cast-result c = let a = c .before .before .before .before .pre in omega (arith, far-few _ (a .sound), far-first _ _ _ a)
 
 add-result : tie.Need-add-result
-add-result c = let a = c .before .before .before .before .pre in omega (arith, long c, cell-bytes _ (a .sound), far-few _ (a .sound), far-below _ _ _ a)
+add-result c = let a = c .before .before .before .before .pre in omega (arith, long c, cell-bytes _ (a .sound), far-few _ (a .sound), far-first _ _ _ a)
 
 returns : tie.Need-returns
 returns c = far-at _ _ _ (c .before .before .before .before .pre) _ (long c)
