@@ -15,6 +15,8 @@
 #define N 4u
 #define K 1u
 #define B 0u
+/* How many DCells of level 1 are fitted. This hall is full: with k below 2 that is 1, with k of 2 or 3 it would be t(k) / t(1). */
+#define COUNT 1u
 /* t(k) servers in the hall, t(b) in a local cell, k + 1 ports on a server. */
 #define SERVERS 20u
 #define CELL_SERVERS 4u
@@ -102,9 +104,9 @@ static struct step take_step(uint32_t uid, const struct header *says, const uint
     uint8_t table[TBEXLUM_STEP_TABLE_ROOM];
     uint8_t room[TBEXLUM_STEP_ROOM];
     struct step step;
-    need("tbexlum_step_table", tbexlum_step_table(N, K, B, hall_table, HALL_CODES, uid, table, sizeof table));
+    need("tbexlum_step_table", tbexlum_step_table(N, K, B, COUNT, hall_table, HALL_CODES, uid, table, sizeof table));
     /* The room may be longer than the table; the step is lent the table's bytes alone. */
-    need("tbexlum_step", tbexlum_step(N, K, B, uid, says->destination, says->has_proxy, says->proxy, (uint8_t)says->retry,
+    need("tbexlum_step", tbexlum_step(N, K, B, COUNT, uid, says->destination, says->has_proxy, says->proxy, (uint8_t)says->retry,
                                       (uint8_t)says->ttl, table, STEP_CODES, room, sizeof room));
     step.ending = tbexlum_word_at(room, TBEXLUM_STEP_ENDING_AT);
     step.next = tbexlum_word_at(room, TBEXLUM_STEP_NEXT_AT);
@@ -148,7 +150,7 @@ static void print_route(uint32_t x, uint32_t y)
 {
     uint8_t room[TBEXLUM_ROUTE_ROOM];
     size_t at = TBEXLUM_ROUTE_UIDS_AT;
-    need("tbexlum_route", tbexlum_route(N, K, B, x, y, room, sizeof room));
+    need("tbexlum_route", tbexlum_route(N, K, B, COUNT, x, y, room, sizeof room));
     printf("%" PRIu32, tbexlum_word_at(room, at));
     while (tbexlum_word_at(room, at) != y) {
         at += TBEXLUM_WORD;

@@ -5,6 +5,9 @@
  * Any number may be passed. A slice is a pointer and its length in bytes; NULL may be passed with length 0. A room must not overlap the
  * frame or table of the same call.
  *
+ * A hall is n servers on a switch, top level k, local level b and a count. The count is the number of DCells of level 1 that are fitted in
+ * it: t(k) / t(1) in a full hall, and always 1 with k below 2.
+ *
  * Answers of tbexlum_route, tbexlum_read_header and tbexlum_step are words: 32 bits, big-endian, at the offsets below. Those of
  * tbexlum_write_header and tbexlum_step_table are bytes. */
 #ifndef TBEXLUM_H
@@ -20,17 +23,18 @@ extern "C" {
 /* The version of the calls; bin/install writes it to tbexlum.pc. The major number rises where a driver written for the number before may
  * have to be changed, and the minor number where something was only added. */
 
-#define TBEXLUM_VERSION_MAJOR 3u
+#define TBEXLUM_VERSION_MAJOR 4u
 #define TBEXLUM_VERSION_MINOR 0u
 
-/* What a call that is lent a room returns. The numbers 3, 5 and 10 belong to calls that a driver is not offered, and 12 belongs to none;
- * the calls here never return them. */
+/* What a call that is lent a room returns. The numbers 3, 5, 10 and 12 belong to calls that a driver is not offered; the calls here never
+ * return them. */
 
 /* Not refused: the answer stands in the room. */
 #define TBEXLUM_ANSWERED 0u
-/* n, k or b outside its range: n is 2 to 8, k is 0 to 3, b is 0 to the smaller of 1 and k. */
+/* n, k, b or the count of a hall outside its range: n is 2 to 8, k is 0 to 3, b is 0 to the smaller of 1 and k. The count is 0 to
+ * t(k) / t(1) with k of 2 or 3, and 1 with k below 2. */
 #define TBEXLUM_REFUSED_BAD_HALL 1u
-/* A uid that is not below t(k), the servers of the hall. */
+/* A uid that is not below t(k), the servers of the full hall. The uid of a server that is not fitted is not refused. */
 #define TBEXLUM_REFUSED_BAD_UID 2u
 /* A table that does not have the length that the call asks for: tbexlum_step_table is lent t(k) * (k + 1) bytes, and tbexlum_step
  * t(b) * (2 * k + 1 - b) bytes. */
@@ -73,7 +77,8 @@ extern "C" {
 
 /* The bytes of a word. */
 #define TBEXLUM_WORD 4u
-/* The one port code that counts as up; every other byte counts as not usable. A link is usable only where both of its ports are up. */
+/* The one port code that counts as up; every other byte counts as not usable. A link is usable only where both of its ports are up and the
+ * servers at both of its ends are fitted. */
 #define TBEXLUM_PORT_UP 1u
 /* The greatest retry of a packet. */
 #define TBEXLUM_MOST_RETRY 15u
@@ -118,7 +123,7 @@ extern "C" {
 
 /* The answer of tbexlum_step_table: the codes of the table, a byte each. */
 
-/* A room that every step's table fits in; the table of a step in the hall n, k, b needs its own t(b) * (2 * k + 1 - b) bytes. */
+/* A room that every step's table fits in; the table of a step needs its own t(b) * (2 * k + 1 - b) bytes. */
 #define TBEXLUM_STEP_TABLE_ROOM 432u
 
 /* The answer of tbexlum_step. */
@@ -142,9 +147,9 @@ extern "C" {
 /* The bytes of the answer. */
 #define TBEXLUM_STEP_ROOM 32u
 
-/* The route without failures from x to y in the hall n, k, b.
+/* The route without failures from x to y in the hall n, k, b, count. It is the route of the full hall, whatever is fitted.
  * Refusals in order: BAD_HALL, BAD_UID, SHORT_ROOM. */
-uint32_t tbexlum_route(uint32_t n, uint32_t k, uint32_t b, uint32_t x, uint32_t y, uint8_t *room, size_t room_length);
+uint32_t tbexlum_route(uint32_t n, uint32_t k, uint32_t b, uint32_t count, uint32_t x, uint32_t y, uint8_t *room, size_t room_length);
 
 /* The header of a frame, read and checked.
  * Refusals in order: SHORT_FRAME (20 bytes), BAD_VERSION, BAD_DHL, BAD_FLAGS, BAD_PF, SHORT_FRAME (DHL), BAD_CHECKSUM, BAD_ADDRESS,
@@ -169,14 +174,17 @@ uint32_t tbexlum_write_header(uint8_t protocol, uint16_t payload_length, uint32_
  * - behind them the t(b) * (k - b) far codes. For each server of the cell in uid order, and within a server for each level i from b + 1
  *   to k, this is the code of the far port of its link of level i: port i of its neighbour at that level. That of the cell's server j
  *   is at byte t(b) * (k + 1) + j * (k - b) + (i - b - 1). Where k is b, there is none.
+ * In both parts, the code of a port is written as 0 where its own server or its far server is not fitted. Port 0 has no far server.
  * Refusals in order: BAD_HALL, BAD_LENGTH (the hall table), BAD_UID, SHORT_ROOM. */
-uint32_t tbexlum_step_table(uint32_t n, uint32_t k, uint32_t b, const uint8_t *table, size_t table_length, uint32_t uid,
+uint32_t tbexlum_step_table(uint32_t n, uint32_t k, uint32_t b, uint32_t count, const uint8_t *table, size_t table_length, uint32_t uid,
                             uint8_t *room, size_t room_length);
 
 /* One forwarding step at the server uid, over the table of a step as tbexlum_step_table lays it out: t(b) * (2 * k + 1 - b) port codes.
- * A link is used only where its ports at both ends have the code TBEXLUM_PORT_UP. Where has_proxy is 0, proxy is not looked at.
+ * A link is used only where its ports at both ends have the code TBEXLUM_PORT_UP. The code of a port of the server's own cell counts as 0
+ * where its own server or its far server is not fitted, so that no link to such a server is used. Where has_proxy is 0, proxy is not
+ * looked at.
  * Refusals in order: BAD_HALL, BAD_LENGTH, BAD_UID (uid, dst, proxy), BAD_RETRY, SHORT_ROOM. */
-uint32_t tbexlum_step(uint32_t n, uint32_t k, uint32_t b, uint32_t uid, uint32_t dst, uint32_t has_proxy, uint32_t proxy,
+uint32_t tbexlum_step(uint32_t n, uint32_t k, uint32_t b, uint32_t count, uint32_t uid, uint32_t dst, uint32_t has_proxy, uint32_t proxy,
                       uint8_t retry, uint8_t ttl, const uint8_t *table, size_t table_length, uint8_t *room, size_t room_length);
 
 /* Helpers. They are compiled with the driver and call nothing. */
@@ -207,7 +215,7 @@ static inline const char *tbexlum_refusal_text(uint32_t number)
     case TBEXLUM_ANSWERED:
         return "answered, not refused";
     case TBEXLUM_REFUSED_BAD_HALL:
-        return "n, k or b is outside its range";
+        return "n, k, b or the count of the hall is outside its range";
     case TBEXLUM_REFUSED_BAD_UID:
         return "a uid is not below t(k)";
     case TBEXLUM_REFUSED_BAD_LENGTH:

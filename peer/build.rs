@@ -6,8 +6,9 @@ use std::path::PathBuf;
 /// The folder of the static libraries, seen from this package.
 const STATIC_LIBRARIES: &str = "../target/staticlib";
 /// The static libraries that `src/rattle.rs` names.
-const ARCHIVES: [&str; 6] = [
+const ARCHIVES: [&str; 7] = [
     "libcalls_hall.a",
+    "libcalls_plan.a",
     "libdriver.a",
     "libcalls_packets.a",
     "libcalls_parts.a",

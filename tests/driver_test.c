@@ -1,9 +1,10 @@
-/* Shows that the library does what tbexlum.h says: every constant, each refusal, its order and its place, each ending, rooms of every
- * length, nothing read or written but what was lent, and the helpers of the header.
+/* Shows that the library does what tbexlum.h says: every constant, each refusal, its order and its place, each ending, halls that are not
+ * full, rooms of every length, nothing read or written but what was lent, and the helpers of the header.
  *
  * What is lent lies between pages that can't be touched, first at the front of its pages and then at their back, over two paints. So a
  * byte read or written outside kills the program, and a byte written beside the answer shows. Valid C11 and C++17.
- * Usage: driver_test [SEED]. Prints a line for each test, then `N passed, M failed`; exit status 1 where one failed.
+ * Usage: driver_test [SEED]. Prints a line for each test, then `N passed, M failed`; exit status 1 where one failed. The first fault of a
+ * test is printed before its line.
  * INSTALLED_VERSION is the version that pkg-config tells, as a string; where it is not defined, the version is not tested. */
 #ifndef _GNU_SOURCE
 #define _GNU_SOURCE /* MAP_ANONYMOUS, makecontext */
@@ -36,6 +37,8 @@ static const char worked_7_at_0[] = "15060001 00000001 500F9AD5 00000000 0000001
 static const char worked_hall_table[] = "0101010101010101 0101010101010101 0101010101010101 0101010101010101 0103010101010101";
 static const char worked_step_table[] = "01010101 01010101 01010103";
 static const char worked_step[] = "00000000 00000004 00000013 00000001 00000004 00000004 0000000E 00000001";
+static const char worked_part_table[] = "010101 010100 0101 0100";
+static const char worked_part_step[] = "00000000 00000000 0000000C 00000001 00000006 00000004 0000000E 00000001";
 
 /* Bytes that a room is tried with beyond what its call needs. */
 #define BEYOND 8u
@@ -45,6 +48,9 @@ static const char worked_step[] = "00000000 00000004 00000013 00000001 00000004 
 #define LONGEST_HALL_TABLE 110523168u
 /* The longest table of a step: 72 servers of 4 ports and 2 far codes. */
 #define LONGEST_TABLE 432u
+/* The most DCell2s and the most DCell1s of a hall: those of n = 8, k = 3. */
+#define MOST_DCELL2S 5257u
+#define MOST_DCELL1S 383761u
 /* The table of a step of n = 4, k = 1, b = 0: 4 servers of 2 ports, and behind these 8 codes a far code for each server. */
 #define SMALL_TABLE 12u
 #define SMALL_FAR_AT 8u
@@ -54,6 +60,8 @@ static const char worked_step[] = "00000000 00000004 00000013 00000001 00000004 
 #ifndef RANDOM_QUESTIONS
 #define RANDOM_QUESTIONS 60000u
 #endif
+/* Where few random questions are asked, one of so many is tried of what is otherwise tried throughout. */
+#define STRIDE (RANDOM_QUESTIONS < 6000u ? 7u : 1u)
 /* The greatest number. */
 #define HUGE_WORD 4294967295u
 /* The stack in bytes that no call may exceed, as docs/DRIVER.md says: what was measured and about a tenth more, a multiple of 16. */
@@ -62,7 +70,7 @@ static const char worked_step[] = "00000000 00000004 00000013 00000001 00000004 
 #define READ_STACK 112u
 #define PLACE_STACK 80u
 #define WRITE_STACK 192u
-#define TABLE_STACK 336u
+#define TABLE_STACK 592u
 /* What the function that makes the call takes more where it is not optimized. */
 #ifdef __OPTIMIZE__
 #define CALLER_MORE 0u
@@ -72,8 +80,8 @@ static const char worked_step[] = "00000000 00000004 00000013 00000001 00000004 
 
 /* Numbers that are at an edge of some rule. */
 static const uint32_t edges[] = {
-    0, 1, 2, 3, 4, 5, 7, 8, 9, 15, 16, 19, 20, 255, 256, 1805, 1806, 65535, 65536, 27630791u, 27630792u, 2147483647u, 2147483648u,
-    2415919103u, 4026531839u, 4294967294u, HUGE_WORD,
+    0, 1, 2, 3, 4, 5, 7, 8, 9, 15, 16, 19, 20, 255, 256, 301, 302, 1805, 1806, 65535, 65536, MOST_DCELL1S, MOST_DCELL1S + 1, 27630791u,
+    27630792u, 2147483647u, 2147483648u, 2415919103u, 4026531839u, 4294967294u, HUGE_WORD,
 };
 #define EDGES (sizeof edges / sizeof edges[0])
 
@@ -225,14 +233,41 @@ static int is_kept(const uint8_t *paint, const uint8_t *at, size_t size)
         && memcmp(rooms.bytes + before + size, paint + before + size, rooms.size - before - size) == 0;
 }
 
+/* ---- Sizes ---- */
+
+/* t(level) of n servers a switch. */
+static uint32_t servers_of(uint32_t n, uint32_t level)
+{
+    uint32_t t = n;
+    while (level-- > 0) {
+        t *= t + 1;
+    }
+    return t;
+}
+
+/* The count of a full hall, which is the highest: t(k) / t(1), and 1 with k below 2. Also 1 where no hall has such a k. */
+static uint32_t full_count(uint32_t n, uint32_t k)
+{
+    uint32_t in_dcell2 = servers_of(n, 1) + 1;
+    switch (k) {
+    case 2:
+        return in_dcell2;
+    case 3:
+        return (servers_of(n, 2) + 1) * in_dcell2;
+    default:
+        return 1;
+    }
+}
+
 /* ---- Questions: a call with all its arguments but the room ---- */
 
 enum call { ROUTE, READ, PLACE, WRITE, TABLE, STEP };
 #define CALLS 6u
+static const char *const call_names[CALLS] = {"route", "read_header", "header_place", "write_header", "step_table", "step"};
 
 struct question {
     enum call call;
-    uint32_t n, k, b;                      /* route, table and step */
+    uint32_t n, k, b, count;               /* route, table and step */
     uint32_t from, to, has_proxy, proxy;   /* x or uid or source, y or dst or destination */
     uint8_t retry, ttl;                    /* write and step */
     uint8_t protocol;                      /* write */
@@ -251,12 +286,14 @@ static struct question no_question(enum call call)
     return q;
 }
 
+/* A question that has a hall is about the full one, unless it is asked `with_count`. */
 static struct question route_question(uint32_t n, uint32_t k, uint32_t b, uint32_t x, uint32_t y)
 {
     struct question q = no_question(ROUTE);
     q.n = n;
     q.k = k;
     q.b = b;
+    q.count = full_count(n, k);
     q.from = x;
     q.to = y;
     return q;
@@ -322,11 +359,18 @@ static struct question with_proxy(struct question q, uint32_t proxy)
     return q;
 }
 
+/* The same in the hall of which so many DCell1s are fitted. */
+static struct question with_count(struct question q, uint32_t count)
+{
+    q.count = count;
+    return q;
+}
+
 static uint32_t ask(const struct question *q, uint8_t *room, size_t length)
 {
     switch (q->call) {
     case ROUTE:
-        return tbexlum_route(q->n, q->k, q->b, q->from, q->to, room, length);
+        return tbexlum_route(q->n, q->k, q->b, q->count, q->from, q->to, room, length);
     case READ:
         return tbexlum_read_header(q->bytes, q->length, room, length);
     case PLACE:
@@ -335,9 +379,9 @@ static uint32_t ask(const struct question *q, uint8_t *room, size_t length)
         return tbexlum_write_header(q->protocol, q->payload_length, q->identification, q->retry, q->ttl, q->from, q->to, q->has_proxy,
                                     q->proxy, room, length);
     case TABLE:
-        return tbexlum_step_table(q->n, q->k, q->b, q->bytes, q->length, q->from, room, length);
+        return tbexlum_step_table(q->n, q->k, q->b, q->count, q->bytes, q->length, q->from, room, length);
     default:
-        return tbexlum_step(q->n, q->k, q->b, q->from, q->to, q->has_proxy, q->proxy, q->retry, q->ttl, q->bytes, q->length, room,
+        return tbexlum_step(q->n, q->k, q->b, q->count, q->from, q->to, q->has_proxy, q->proxy, q->retry, q->ttl, q->bytes, q->length, room,
                             length);
     }
 }
@@ -366,6 +410,51 @@ static size_t most_room(enum call call)
     return call == TABLE ? TBEXLUM_STEP_TABLE_ROOM : TBEXLUM_ROUTE_ROOM;
 }
 
+/* Prints a question, for the first fault of a test. */
+static void print_question(const struct question *q)
+{
+    printf("%s, n %" PRIu32 ", k %" PRIu32 ", b %" PRIu32 ", count %" PRIu32 ", from %" PRIu32 " to %" PRIu32 ", has_proxy %" PRIu32
+           ", proxy %" PRIu32 ", retry %u, TTL %u, %zu bytes lent: ",
+           call_names[q->call], q->n, q->k, q->b, q->count, q->from, q->to, q->has_proxy, q->proxy, (unsigned)q->retry, (unsigned)q->ttl,
+           q->length);
+}
+
+/* Whether a call returned this number. */
+static int is_number(const struct question *q, uint32_t number, uint32_t wanted)
+{
+    if (number != wanted && is_good) {
+        print_question(q);
+        printf("returned %" PRIu32 ", not %" PRIu32 "\n", number, wanted);
+    }
+    return number == wanted;
+}
+
+/* Whether a call wrote this answer. */
+static int is_answer(const struct question *q, const uint8_t *room, const uint8_t *answer, size_t size)
+{
+    size_t i;
+    for (i = 0; i < size; i++) {
+        if (room[i] != answer[i]) {
+            if (is_good) {
+                print_question(q);
+                printf("byte %zu of the answer is %u, not %u\n", i, (unsigned)room[i], (unsigned)answer[i]);
+            }
+            return 0;
+        }
+    }
+    return 1;
+}
+
+/* A demand whose question is printed where it does not hold. */
+static void demand_of(const struct question *q, int holds, int line)
+{
+    if (!holds && is_good) {
+        print_question(q);
+    }
+    demand(holds, line);
+}
+#define DEMAND_OF(question, condition) demand_of(&(question), (condition) != 0, __LINE__)
+
 /* Whether a call with a room of this length returns the number, writes exactly this answer to the room's start, and keeps the rest. */
 static int tells(const struct question *asked, size_t length, uint32_t number, const uint8_t *answer, size_t size)
 {
@@ -376,13 +465,10 @@ static int tells(const struct question *asked, size_t length, uint32_t number, c
         for (turned = 0; turned < 2; turned++) {
             uint8_t *room = part(&rooms, back, length);
             memcpy(rooms.bytes, paints[turned], rooms.size);
-            if (ask(&q, room, length) != number || !is_kept(paints[turned], room, size)) {
+            if (!is_number(&q, ask(&q, room, length), number) || !is_answer(&q, room, answer, size)) {
                 return 0;
             }
-            if (size != 0 && memcmp(room, answer, size) != 0) {
-                return 0;
-            }
-            if (!is_as_lent(&q, asked)) {
+            if (!is_kept(paints[turned], room, size) || !is_as_lent(&q, asked)) {
                 return 0;
             }
         }
@@ -466,10 +552,10 @@ struct packet {
     uint32_t dst, has_proxy, proxy, retry, ttl;
 };
 
-static int answers_step(struct question q, uint32_t ending, uint32_t next, struct packet p, uint32_t reroutes)
+/* The answer of a step. */
+static void put_step(uint8_t *answer, uint32_t ending, uint32_t next, struct packet p, uint32_t reroutes)
 {
-    uint8_t answer[ANY_ROOM];
-    memset(answer, 0, sizeof answer);
+    memset(answer, 0, TBEXLUM_STEP_ROOM);
     tbexlum_put_word(answer, TBEXLUM_STEP_ENDING_AT, ending);
     tbexlum_put_word(answer, TBEXLUM_STEP_NEXT_AT, next);
     tbexlum_put_word(answer, TBEXLUM_STEP_DST_AT, p.dst);
@@ -478,6 +564,12 @@ static int answers_step(struct question q, uint32_t ending, uint32_t next, struc
     tbexlum_put_word(answer, TBEXLUM_STEP_RETRY_AT, p.retry);
     tbexlum_put_word(answer, TBEXLUM_STEP_TTL_AT, p.ttl);
     tbexlum_put_word(answer, TBEXLUM_STEP_REROUTES_AT, reroutes);
+}
+
+static int answers_step(struct question q, uint32_t ending, uint32_t next, struct packet p, uint32_t reroutes)
+{
+    uint8_t answer[ANY_ROOM];
+    put_step(answer, ending, next, p, reroutes);
     return answers(q, answer, TBEXLUM_STEP_ROOM);
 }
 
@@ -492,24 +584,27 @@ static struct packet packet_of(uint32_t dst, uint32_t has_proxy, uint32_t proxy,
     return p;
 }
 
+/* The packet as it came. */
+static struct packet packet_in(const struct question *q)
+{
+    return packet_of(q->to, q->has_proxy != 0, q->has_proxy != 0 ? q->proxy : 0, q->retry, q->ttl);
+}
+
 /* A packet that is answered as it came ends the step. */
 static int ends(struct question q, uint32_t ending, uint32_t reroutes)
 {
-    struct packet came = packet_of(q.to, q.has_proxy != 0, q.has_proxy != 0 ? q.proxy : 0, q.retry, q.ttl);
-    return answers_step(q, ending, 0, came, reroutes);
+    return answers_step(q, ending, 0, packet_in(&q), reroutes);
+}
+
+/* The same with a room of one length. */
+static int ends_once(struct question q, uint32_t ending, uint32_t reroutes)
+{
+    uint8_t answer[ANY_ROOM];
+    put_step(answer, ending, 0, packet_in(&q), reroutes);
+    return tells(&q, TBEXLUM_STEP_ROOM, TBEXLUM_ANSWERED, answer, TBEXLUM_STEP_ROOM);
 }
 
 /* ---- Halls ---- */
-
-/* t(level) of n servers a switch. */
-static uint32_t servers_of(uint32_t n, uint32_t level)
-{
-    uint32_t t = n;
-    while (level-- > 0) {
-        t *= t + 1;
-    }
-    return t;
-}
 
 /* The codes of the hall table: k + 1 ports of every server. */
 static size_t hall_table_length(uint32_t n, uint32_t k)
@@ -578,31 +673,174 @@ static uint32_t neighbour_of(uint32_t n, uint32_t uid, uint32_t level)
     return inside < cell ? start + inside * sub + cell - 1 : start + (inside + 1) * sub + cell;
 }
 
+/* ---- Which servers are fitted: the procedure of the paper, run addition by addition ----
+ * A DCell1 of a hall has the number uid / t(1), and a DCell2 has t(1) + 1 of them. */
+
+/* Of each hall with k of 2 or 3: the DCell1s in the order in which they are fitted, and for each DCell1 how many are fitted before it. */
+static uint32_t *fitted_in_turn[9][4];
+static uint32_t *turn_of[9][4];
+
+/* GetIndex, figure 6 of the paper: the DCell2 of a DCell3 that the next DCell1 goes to. Each of the first `begun` has some of its `most`
+ * DCell1s, and those before `open` are full; they stay full. */
+static uint32_t get_index(const uint32_t *held, uint32_t begun, uint32_t most, uint32_t *open)
+{
+    if (begun < most) {
+        return begun;
+    }
+    while (*open < begun && held[*open] == most) {
+        ++*open;
+    }
+    return *open; /* the first that is not full; where all are, it is a new one */
+}
+
+/* AddDCell, figure 6, until the hall is full. */
+static void fit_all(uint32_t n, uint32_t k, uint32_t *in_turn, uint32_t *turns)
+{
+    static uint32_t held[MOST_DCELL2S]; /* how many DCell1s each DCell2 has */
+    uint32_t most = servers_of(n, 1) + 1;
+    uint32_t begun = 0;
+    uint32_t open = 0;
+    uint32_t count;
+    memset(held, 0, sizeof held);
+    for (count = 0; count < full_count(n, k); count++) {
+        uint32_t dcell2 = k == 2 ? 0 : get_index(held, begun, most, &open);
+        uint32_t dcell1 = dcell2 * most + held[dcell2]; /* in a DCell2 the next free index is used */
+        begun += held[dcell2] == 0;
+        held[dcell2]++;
+        in_turn[count] = dcell1;
+        turns[dcell1] = count;
+    }
+}
+
+static void prepare_fitted(void)
+{
+    uint32_t n;
+    uint32_t k;
+    for (n = 2; n <= 8; n++) {
+        for (k = 2; k <= 3; k++) {
+            size_t bytes = full_count(n, k) * sizeof(uint32_t);
+            fitted_in_turn[n][k] = (uint32_t *)malloc(bytes);
+            turn_of[n][k] = (uint32_t *)malloc(bytes);
+            if (fitted_in_turn[n][k] == NULL || turn_of[n][k] == NULL) {
+                printf("no memory\n");
+                exit(EXIT_FAILURE);
+            }
+            memset(turn_of[n][k], 255, bytes); /* a DCell1 without a turn would show in `fitted_turns` */
+            fit_all(n, k, fitted_in_turn[n][k], turn_of[n][k]);
+        }
+    }
+}
+
+/* Whether there is such a server, and it is fitted where so many DCell1s are. */
+static int is_fitted(uint32_t n, uint32_t k, uint32_t count, uint32_t uid)
+{
+    return uid < servers_of(n, k) && (k < 2 || turn_of[n][k][uid / servers_of(n, 1)] < count);
+}
+
+/* Whether a port's own server and its far server are fitted. Port 0 leads to the switch and has no far server. */
+static int is_port_fitted(uint32_t n, uint32_t k, uint32_t count, uint32_t uid, uint32_t port)
+{
+    return is_fitted(n, k, count, uid) && (port == 0 || is_fitted(n, k, count, neighbour_of(n, uid, port)));
+}
+
+/* How many DCell1s are fitted before that of a server, as docs/DRIVER.md works it out. */
+static uint32_t turn_by_manual(uint32_t n, uint32_t k, uint32_t uid)
+{
+    uint32_t t1 = servers_of(n, 1);
+    uint32_t q = uid / servers_of(n, 2);
+    uint32_t i = uid % servers_of(n, 2) / t1;
+    if (k == 2) {
+        return i;
+    }
+    if (q > t1) {
+        return q * (t1 + 1) + i;
+    }
+    return i == 0 ? q : (q + 1) * t1 + i;
+}
+
+/* Some counts of a hall: those after which another DCell2 is begun or filled, and those beside them; also 0, 1, 2 and the last three.
+ * Answers how many. */
+#define MOST_COUNTS 18u
+static size_t counts_of(uint32_t n, uint32_t k, uint32_t *counts)
+{
+    uint32_t most = servers_of(n, 1) + 1;
+    uint32_t full = full_count(n, k);
+    const uint32_t turns[] = {1, most, 2 * most - 1, most * most, most * most + most, full - 1};
+    size_t size = 0;
+    size_t i;
+    uint32_t count;
+    if (k < 2) {
+        counts[0] = 1;
+        return 1;
+    }
+    for (i = 0; i < sizeof turns / sizeof turns[0]; i++) {
+        for (count = turns[i] - 1; count <= turns[i] + 1 && count <= full; count++) {
+            counts[size++] = count;
+        }
+    }
+    return size;
+}
+
+/* Some counts that the hall can't have, at most MOST_COUNTS. Answers how many. */
+static size_t wrong_counts_of(uint32_t n, uint32_t k, uint32_t *counts)
+{
+    uint32_t full = full_count(n, k);
+    size_t size = 0;
+    counts[size++] = full + 1;
+    counts[size++] = full + 2;
+    counts[size++] = full + 256;
+    counts[size++] = full + 65536;
+    counts[size++] = 2147483648u;
+    counts[size++] = 2147483648u + full;
+    counts[size++] = HUGE_WORD - 1;
+    counts[size++] = HUGE_WORD;
+    if (k < 3) {
+        counts[size++] = full_count(n, k < 2 ? 2 : 3);
+    }
+    if (k < 2) {
+        counts[size++] = 0;
+    }
+    return size;
+}
+
+/* A server that is fitted where so many DCell1s are, but at least one. */
+static uint32_t random_fitted(uint32_t n, uint32_t k, uint32_t count)
+{
+    uint32_t t1 = servers_of(n, 1);
+    return k < 2 ? random_below(servers_of(n, k)) : fitted_in_turn[n][k][random_below(count)] * t1 + random_below(t1);
+}
+
 /* The code of a server's port in a hall table. */
 static uint8_t code_of(uint32_t k, const uint8_t *hall_table, uint32_t uid, uint32_t port)
 {
     return hall_table[(size_t)uid * (k + 1) + port];
 }
 
+/* The same as it counts in a hall of which so many DCell1s are fitted. */
+static uint8_t counted_code(uint32_t n, uint32_t k, uint32_t count, const uint8_t *hall_table, uint32_t uid, uint32_t port)
+{
+    return is_port_fitted(n, k, count, uid, port) ? code_of(k, hall_table, uid, port) : 0;
+}
+
 /* The table of a step at a server; answers its bytes. */
-static size_t step_table_of(uint32_t n, uint32_t k, uint32_t b, const uint8_t *hall_table, uint32_t uid, uint8_t *table)
+static size_t step_table_of(uint32_t n, uint32_t k, uint32_t b, uint32_t count, const uint8_t *hall_table, uint32_t uid, uint8_t *table)
 {
     uint32_t cell = servers_of(n, b);
     uint32_t first = uid - uid % cell;
     uint32_t server;
     uint32_t port;
-    size_t count = 0;
+    size_t size = 0;
     for (server = first; server < first + cell; server++) {
         for (port = 0; port <= k; port++) {
-            table[count++] = code_of(k, hall_table, server, port);
+            table[size++] = counted_code(n, k, count, hall_table, server, port);
         }
     }
     for (server = first; server < first + cell; server++) {
         for (port = b + 1; port <= k; port++) {
-            table[count++] = code_of(k, hall_table, neighbour_of(n, server, port), port);
+            table[size++] = counted_code(n, k, count, hall_table, neighbour_of(n, server, port), port);
         }
     }
-    return count;
+    return size;
 }
 
 /* Calls `visit` with every hall there is. */
@@ -625,6 +863,7 @@ static const uint32_t no_halls[][3] = {
     {0, 1, 0}, {1, 1, 0}, {9, 1, 0}, {258, 1, 0}, {2147483650u, 1, 0}, {HUGE_WORD, 1, 0},
     {4, 4, 0}, {4, 256, 0}, {4, HUGE_WORD, 0},
     {4, 1, 2}, {4, 3, 2}, {4, 0, 1}, {4, 1, 256}, {4, 3, HUGE_WORD},
+    {1, 2, 0}, {9, 2, 0}, {1, 3, 1}, {9, 3, 1}, {258, 2, 0}, {4, 2, 2},
     {HUGE_WORD, HUGE_WORD, HUGE_WORD},
 };
 #define NO_HALLS (sizeof no_halls / sizeof no_halls[0])
@@ -656,7 +895,7 @@ static size_t route_uids(uint32_t n, uint32_t k, uint32_t x, uint32_t y, uint8_t
 {
     size_t count = 1;
     memset(room, 255, ANY_ROOM);
-    if (tbexlum_route(n, k, 0, x, y, room, TBEXLUM_ROUTE_ROOM) != TBEXLUM_ANSWERED) {
+    if (tbexlum_route(n, k, 0, full_count(n, k), x, y, room, TBEXLUM_ROUTE_ROOM) != TBEXLUM_ANSWERED) {
         return 0;
     }
     while (count <= TBEXLUM_MOST_UIDS && tbexlum_word_at(room, TBEXLUM_ROUTE_UIDS_AT + (count - 1) * TBEXLUM_WORD) != y) {
@@ -700,11 +939,19 @@ static void route_ends(void)
     }
 }
 
+/* Whether a question is refused by 1 with a room of every length, and so with some other counts. */
+static int has_no_hall(struct question q)
+{
+    return refuses(q, TBEXLUM_REFUSED_BAD_HALL) && refuses_once(with_count(q, 0), TBEXLUM_REFUSED_BAD_HALL)
+        && refuses_once(with_count(q, 1), TBEXLUM_REFUSED_BAD_HALL) && refuses_once(with_count(q, 2), TBEXLUM_REFUSED_BAD_HALL)
+        && refuses_once(with_count(q, HUGE_WORD), TBEXLUM_REFUSED_BAD_HALL);
+}
+
 static void route_halls(void)
 {
     size_t i;
     for (i = 0; i < NO_HALLS; i++) {
-        DEMAND(refuses(route_question(no_halls[i][0], no_halls[i][1], no_halls[i][2], 0, 1), TBEXLUM_REFUSED_BAD_HALL));
+        DEMAND(has_no_hall(route_question(no_halls[i][0], no_halls[i][1], no_halls[i][2], 0, 1)));
     }
 }
 
@@ -728,13 +975,15 @@ static void route_uid_bounds(void)
 
 static void route_order(void)
 {
-    struct question q = route_question(9, 4, 5, HUGE_WORD, HUGE_WORD);
+    struct question q = with_count(route_question(9, 4, 5, HUGE_WORD, HUGE_WORD), 2);
     DEMAND(ask(&q, NULL, 0) == TBEXLUM_REFUSED_BAD_HALL);
     q.n = 4;
     DEMAND(ask(&q, NULL, 0) == TBEXLUM_REFUSED_BAD_HALL);
     q.k = 1;
     DEMAND(ask(&q, NULL, 0) == TBEXLUM_REFUSED_BAD_HALL);
     q.b = 0;
+    DEMAND(ask(&q, NULL, 0) == TBEXLUM_REFUSED_BAD_HALL);
+    q.count = 1;
     DEMAND(ask(&q, NULL, 0) == TBEXLUM_REFUSED_BAD_UID);
     q.from = 0;
     DEMAND(ask(&q, NULL, 0) == TBEXLUM_REFUSED_BAD_UID);
@@ -1240,22 +1489,22 @@ static void table_longest(void)
     int back;
     for (back = 0; back < 2; back++) {
         struct question q = table_question_in_place(8, 3, 1, back, LONGEST_HALL_TABLE, 27630791u - 36000u);
-        DEMAND(step_table_of(8, 3, 1, q.bytes, q.from, answer) == TBEXLUM_STEP_TABLE_ROOM);
+        DEMAND(step_table_of(8, 3, 1, q.count, q.bytes, q.from, answer) == TBEXLUM_STEP_TABLE_ROOM);
         DEMAND(answers(q, answer, TBEXLUM_STEP_TABLE_ROOM));
     }
 }
 
 /* Whether the call tells the table of a step of this server, from a hall table at the front and one at the back of its pages: to a room
  * that fits, and to a longer one. A room that is a byte short is refused. */
-static int tells_table(uint32_t n, uint32_t k, uint32_t b, uint32_t uid)
+static int tells_table(uint32_t n, uint32_t k, uint32_t b, uint32_t count, uint32_t uid)
 {
     uint8_t answer[ANY_ROOM];
     uint8_t room[ANY_ROOM];
     int back;
     for (back = 0; back < 2; back++) {
-        struct question q = table_question_in_place(n, k, b, back, hall_table_length(n, k), uid);
-        size_t size = step_table_of(n, k, b, q.bytes, uid, answer);
-        struct question step = step_question(n, k, b, uid, 0, 5, 15, answer, size);
+        struct question q = with_count(table_question_in_place(n, k, b, back, hall_table_length(n, k), uid), count);
+        size_t size = step_table_of(n, k, b, count, q.bytes, uid, answer);
+        struct question step = with_count(step_question(n, k, b, uid, 0, 5, 15, answer, size), count);
         if (size != step_table_length(n, k, b) || !tells(&q, size, TBEXLUM_ANSWERED, answer, size)
             || !tells(&q, size + BEYOND, TBEXLUM_ANSWERED, answer, size) || !tells(&q, size - 1, TBEXLUM_REFUSED_SHORT_ROOM, NULL, 0)
             || ask(&step, room, sizeof room) != TBEXLUM_ANSWERED) {
@@ -1268,28 +1517,29 @@ static int tells_table(uint32_t n, uint32_t k, uint32_t b, uint32_t uid)
 static void table_servers(uint32_t n, uint32_t k, uint32_t b)
 {
     uint32_t t = servers_of(n, k);
+    uint32_t full = full_count(n, k);
     uint32_t level;
     uint32_t i;
     for (i = 0; i < RANDOM_QUESTIONS / 300; i++) {
         uint32_t uid = random_below(t);
-        DEMAND(tells_table(n, k, b, uid));
+        DEMAND(tells_table(n, k, b, full, uid));
         for (level = 1; level <= k; level++) {
             uint32_t sub = servers_of(n, level - 1);
             uint32_t place = random_below(sub);
             /* What the test itself takes for the neighbour is joined. */
             DEMAND(are_joined(n, level, uid, neighbour_of(n, uid, level)));
             /* In sub-cell p the neighbours of the places below p are in lower sub-cells, and those from p on are in higher ones. */
-            DEMAND(tells_table(n, k, b, uid - uid % servers_of(n, level) + place * sub + place));
+            DEMAND(tells_table(n, k, b, full, uid - uid % servers_of(n, level) + place * sub + place));
         }
     }
     for (level = 0; level <= k; level++) { /* the first and the last server of the first and the last DCell of each level */
-        DEMAND(tells_table(n, k, b, 0));
-        DEMAND(tells_table(n, k, b, servers_of(n, level) - 1));
-        DEMAND(tells_table(n, k, b, t - servers_of(n, level)));
-        DEMAND(tells_table(n, k, b, t - 1));
+        DEMAND(tells_table(n, k, b, full, 0));
+        DEMAND(tells_table(n, k, b, full, servers_of(n, level) - 1));
+        DEMAND(tells_table(n, k, b, full, t - servers_of(n, level)));
+        DEMAND(tells_table(n, k, b, full, t - 1));
     }
     for (i = 0; i < t && t <= 72; i++) {
-        DEMAND(tells_table(n, k, b, i));
+        DEMAND(tells_table(n, k, b, full, i));
     }
 }
 
@@ -1303,8 +1553,8 @@ static void table_halls(void)
     size_t i;
     for (i = 0; i < NO_HALLS; i++) {
         const uint32_t *hall = no_halls[i];
-        DEMAND(refuses(table_question_in_place(hall[0], hall[1], hall[2], 1, 40, 0), TBEXLUM_REFUSED_BAD_HALL));
-        DEMAND(refuses(table_question(hall[0], hall[1], hall[2], NULL, 0, 0), TBEXLUM_REFUSED_BAD_HALL));
+        DEMAND(has_no_hall(table_question_in_place(hall[0], hall[1], hall[2], 1, 40, 0)));
+        DEMAND(has_no_hall(table_question(hall[0], hall[1], hall[2], NULL, 0, 0)));
     }
 }
 
@@ -1368,13 +1618,15 @@ static void table_uid_bounds(void)
 
 static void table_order(void)
 {
-    struct question q = table_question(9, 4, 5, NULL, 0, HUGE_WORD);
+    struct question q = with_count(table_question(9, 4, 5, NULL, 0, HUGE_WORD), 2);
     DEMAND(ask(&q, NULL, 0) == TBEXLUM_REFUSED_BAD_HALL);
     q.n = 4;
     DEMAND(ask(&q, NULL, 0) == TBEXLUM_REFUSED_BAD_HALL);
     q.k = 1;
     DEMAND(ask(&q, NULL, 0) == TBEXLUM_REFUSED_BAD_HALL);
     q.b = 0;
+    DEMAND(ask(&q, NULL, 0) == TBEXLUM_REFUSED_BAD_HALL);
+    q.count = 1;
     DEMAND(ask(&q, NULL, 0) == TBEXLUM_REFUSED_BAD_LENGTH);
     q.bytes = halls.bytes;
     q.length = 39;
@@ -1455,7 +1707,7 @@ static void step_drop_retry(void)
     uint8_t hall_table[40];
     uint8_t table[SMALL_TABLE];
     two_down(hall_table, 2);
-    DEMAND(step_table_of(4, 1, 0, hall_table, 0, table) == SMALL_TABLE);
+    DEMAND(step_table_of(4, 1, 0, 1, hall_table, 0, table) == SMALL_TABLE);
     DEMAND(ends(step_question(4, 1, 0, 0, 19, 1, 15, table, sizeof table), TBEXLUM_DROP_RETRY, 0));
     DEMAND(ends(step_question(4, 1, 0, 0, 19, 0, 15, table, sizeof table), TBEXLUM_DROP_RETRY, 0));
     memset(table, 0, sizeof table); /* a proxy in the own cell is cleared by one reroute, and the next is one too many */
@@ -1564,10 +1816,10 @@ static void step_halls(void)
     memset(table, TBEXLUM_PORT_UP, sizeof table);
     for (i = 0; i < NO_HALLS; i++) {
         struct question q = step_question(no_halls[i][0], no_halls[i][1], no_halls[i][2], 0, 1, 5, 15, table, SMALL_TABLE);
-        DEMAND(refuses(q, TBEXLUM_REFUSED_BAD_HALL));
+        DEMAND(has_no_hall(q));
         q.bytes = NULL;
         q.length = 0;
-        DEMAND(refuses(q, TBEXLUM_REFUSED_BAD_HALL));
+        DEMAND(has_no_hall(q));
     }
 }
 
@@ -1666,12 +1918,14 @@ static void step_ttl(void)
 static void step_order(void)
 {
     uint8_t table[SMALL_TABLE];
-    struct question q = with_proxy(step_question(9, 4, 5, HUGE_WORD, HUGE_WORD, 255, 255, NULL, 0), HUGE_WORD);
+    struct question q = with_proxy(with_count(step_question(9, 4, 5, HUGE_WORD, HUGE_WORD, 255, 255, NULL, 0), 2), HUGE_WORD);
     memset(table, TBEXLUM_PORT_UP, sizeof table);
     DEMAND(ask(&q, NULL, 0) == TBEXLUM_REFUSED_BAD_HALL);
     q.n = 4;
     q.k = 1;
     q.b = 0;
+    DEMAND(ask(&q, NULL, 0) == TBEXLUM_REFUSED_BAD_HALL);
+    q.count = 1;
     DEMAND(ask(&q, NULL, 0) == TBEXLUM_REFUSED_BAD_LENGTH);
     q.bytes = table;
     q.length = sizeof table;
@@ -1706,29 +1960,34 @@ static struct stepped stepped_of(const uint8_t *room)
 }
 
 /* A step at a server over the table that the library takes for it from the hall table. An ending that is none tells that a call refused. */
-static struct stepped step_over(uint32_t n, uint32_t k, uint32_t b, const uint8_t *hall_table, uint32_t uid, struct packet p)
+static struct stepped step_over(uint32_t n, uint32_t k, uint32_t b, uint32_t count, const uint8_t *hall_table, uint32_t uid,
+                                struct packet p)
 {
     uint8_t table[TBEXLUM_STEP_TABLE_ROOM];
     uint8_t room[TBEXLUM_STEP_ROOM];
     memset(room, 255, sizeof room);
-    if (tbexlum_step_table(n, k, b, hall_table, hall_table_length(n, k), uid, table, sizeof table) == TBEXLUM_ANSWERED) {
-        tbexlum_step(n, k, b, uid, p.dst, p.has_proxy, p.proxy, (uint8_t)p.retry, (uint8_t)p.ttl, table, step_table_length(n, k, b), room,
-                     sizeof room);
+    if (tbexlum_step_table(n, k, b, count, hall_table, hall_table_length(n, k), uid, table, sizeof table) == TBEXLUM_ANSWERED) {
+        tbexlum_step(n, k, b, count, uid, p.dst, p.has_proxy, p.proxy, (uint8_t)p.retry, (uint8_t)p.ttl, table,
+                     step_table_length(n, k, b), room, sizeof room);
     }
     return stepped_of(room);
 }
 
-/* Whether steps over a hall table of n = 4, k = 1 take a packet from 0 by these uids, and end like this. */
-static int passes(uint32_t b, const uint8_t *hall_table, uint32_t dst, uint8_t retry, uint8_t ttl, const uint32_t *uids, size_t count,
-                  uint32_t ending, uint32_t reroutes)
+/* Whether steps over a hall table take a packet by these uids, from the first on, and end like this. */
+static int passes_in(uint32_t n, uint32_t k, uint32_t b, uint32_t count, const uint8_t *hall_table, struct packet p, const uint32_t *uids,
+                     size_t passed_uids, uint32_t ending, uint32_t reroutes)
 {
-    struct packet p = packet_of(dst, 0, 0, retry, ttl);
     uint32_t made = 0;
-    uint32_t uid = 0;
+    uint32_t uid = uids[0];
     size_t i;
-    for (i = 0; i < count; i++) {
-        struct stepped a = step_over(4, 1, b, hall_table, uid, p);
-        if (uid != uids[i] || a.ending != (i + 1 < count ? TBEXLUM_FORWARDED : ending)) {
+    for (i = 0; i < passed_uids; i++) {
+        struct stepped a = step_over(n, k, b, count, hall_table, uid, p);
+        if (uid != uids[i] || a.ending != (i + 1 < passed_uids ? TBEXLUM_FORWARDED : ending)) {
+            if (is_good) {
+                printf("n %" PRIu32 ", k %" PRIu32 ", b %" PRIu32 ", count %" PRIu32 ", to %" PRIu32 ": place %zu has uid %" PRIu32
+                       " and ending %" PRIu32 ", uid %" PRIu32 " is due\n",
+                       n, k, b, count, p.dst, i, uid, a.ending, uids[i]);
+            }
             return 0;
         }
         made += a.reroutes;
@@ -1736,6 +1995,13 @@ static int passes(uint32_t b, const uint8_t *hall_table, uint32_t dst, uint8_t r
         p = a.packet;
     }
     return made == reroutes;
+}
+
+/* The same in the hall n = 4, k = 1, for a packet from 0. */
+static int passes(uint32_t b, const uint8_t *hall_table, uint32_t dst, uint8_t retry, uint8_t ttl, const uint32_t *uids,
+                  size_t passed_uids, uint32_t ending, uint32_t reroutes)
+{
+    return passes_in(4, 1, b, 1, hall_table, packet_of(dst, 0, 0, retry, ttl), uids, passed_uids, ending, reroutes);
 }
 
 static void step_journeys(void)
@@ -1799,7 +2065,7 @@ static void step_random_journeys(void)
         do {
             uint32_t at = uid;
             uint32_t level;
-            a = step_over(n, k, b, hall_table, at, a.packet);
+            a = step_over(n, k, b, full_count(n, k), hall_table, at, a.packet);
             if (a.ending != TBEXLUM_FORWARDED) {
                 break;
             }
@@ -1901,7 +2167,25 @@ static void damage(uint8_t *frame)
     }
 }
 
-/* A question that is sound about as often as not. */
+/* A count of a hall: one at which something turns, any, or one with which the DCell1 of this server is among the last that are fitted. */
+static uint32_t random_count(uint32_t n, uint32_t k, uint32_t uid)
+{
+    uint32_t counts[MOST_COUNTS];
+    size_t size = counts_of(n, k, counts);
+    uint32_t full = full_count(n, k);
+    uint32_t turn;
+    switch (random_below(4)) {
+    case 0:
+        return counts[random_below((uint32_t)size)];
+    case 1:
+        return k < 2 ? 1 : random_below(full + 1);
+    default:
+        turn = k < 2 ? 0 : turn_of[n][k][uid / servers_of(n, 1)];
+        return full - turn > 4 ? turn + 1 + random_below(4) : full;
+    }
+}
+
+/* A question that is sound about as often as not. The hall is full in most of them. */
 static struct question random_question(enum call call)
 {
     int is_sound = random_below(2) == 0;
@@ -1912,8 +2196,12 @@ static struct question random_question(enum call call)
     q.n = is_sound ? 2 + random_below(7) : random_number(10);
     q.k = is_sound ? random_below(4) : random_number(5);
     q.b = is_sound ? random_below(q.k == 0 ? 1 : 2) : random_number(3);
+    q.count = is_sound || random_below(2) == 0 ? full_count(q.n, q.k) : random_number(10);
     limit = has_hall ? servers_of(q.n, is_sound ? q.k : 0) : 2147483648u;
     q.from = is_sound ? random_below(limit) : random_number(50);
+    if (has_hall && is_sound && random_below(4) == 0) {
+        q.count = random_count(q.n, q.k, q.from);
+    }
     q.to = is_sound ? random_below(limit) : random_number(50);
     q.has_proxy = random_below(2) == 0 ? 0 : random_number(3);
     q.proxy = is_sound ? random_below(limit) : random_number(50);
@@ -1925,7 +2213,7 @@ static struct question random_question(enum call call)
     if (call == TABLE) {
         size_t length = is_sound ? hall_table_length(q.n, q.k) : random_below(2) == 0 ? random_number(50) : 40;
         length = length <= LONGEST_HALL_TABLE ? length : LONGEST_HALL_TABLE;
-        q = table_question_in_place(q.n, q.k, q.b, (int)random_below(2), length, q.from);
+        q = with_count(table_question_in_place(q.n, q.k, q.b, (int)random_below(2), length, q.from), q.count);
     }
     if (call == STEP) {
         q.bytes = random_bytes;
@@ -2035,6 +2323,7 @@ static void step_ports(void)
         DEMAND(are_joined(q.n, port, q.from, next));
         DEMAND(code_in_cell(&q, q.from, port) == TBEXLUM_PORT_UP);
         DEMAND((port <= q.b ? code_in_cell(&q, next, port) : far_code(&q, q.from, port)) == TBEXLUM_PORT_UP);
+        DEMAND_OF(q, is_fitted(q.n, q.k, q.count, q.from) && is_fitted(q.n, q.k, q.count, next));
         levels[port]++;
     }
     for (i = 0; i < 4; i++) {
@@ -2100,6 +2389,560 @@ static void step_one_far(void)
     DEMAND(with_link > RANDOM_QUESTIONS / 100 && without_link > RANDOM_QUESTIONS / 100); /* the questions are worth asking */
 }
 
+/* ---- Halls that are not full ---- */
+
+/* Each DCell1 of a hall has one turn, and docs/DRIVER.md works out the same one. */
+static void fitted_turns(void)
+{
+    /* n = 2, k = 3: the first of each of 7 DCell2s; the others of each of these; an eighth DCell2, which is filled at once; the last. */
+    static const uint32_t known[][3] = {
+        {0, 0, 0}, {1, 1, 0}, {6, 6, 0}, {7, 0, 1}, {12, 0, 6}, {13, 1, 1}, {48, 6, 6}, {49, 7, 0}, {50, 7, 1}, {55, 7, 6}, {56, 8, 0},
+        {300, 42, 6},
+    };
+    uint32_t n;
+    uint32_t k;
+    uint32_t i;
+    for (n = 2; n <= 8; n++) {
+        for (k = 2; k <= 3; k++) {
+            uint32_t t1 = servers_of(n, 1);
+            uint32_t full = full_count(n, k);
+            DEMAND(full * t1 == servers_of(n, k));
+            for (i = 0; i < full; i += STRIDE) {
+                uint32_t turn = turn_of[n][k][i];
+                DEMAND(turn < full && fitted_in_turn[n][k][turn] == i);
+                DEMAND(turn_by_manual(n, k, i * t1) == turn && turn_by_manual(n, k, i * t1 + t1 - 1) == turn);
+            }
+        }
+    }
+    DEMAND(full_count(8, 3) == MOST_DCELL1S);
+    for (i = 0; i < sizeof known / sizeof known[0]; i++) {
+        DEMAND(fitted_in_turn[2][3][known[i][0]] == known[i][1] * 7 + known[i][2]);
+    }
+    for (i = 0; i < 7; i++) {
+        DEMAND(fitted_in_turn[2][2][i] == i);
+    }
+}
+
+/* A question of each call that has a hall, which is sound. */
+static struct question sound_question(enum call call, uint32_t n, uint32_t k, uint32_t b)
+{
+    static uint8_t all_up[LONGEST_TABLE];
+    uint32_t last = servers_of(n, k) - 1;
+    memset(all_up, TBEXLUM_PORT_UP, sizeof all_up);
+    switch (call) {
+    case ROUTE:
+        return route_question(n, k, b, 0, last);
+    case TABLE:
+        return table_question_in_place(n, k, b, 1, hall_table_length(n, k), last);
+    default:
+        return step_question(n, k, b, last, 0, 5, 15, all_up, step_table_length(n, k, b));
+    }
+}
+
+/* Counts that a hall can have are answered, and all others are refused by 1, with a room of every length and before everything else. */
+static void asks_count(enum call call, uint32_t n, uint32_t k, uint32_t b)
+{
+    struct question q = sound_question(call, n, k, b);
+    uint32_t counts[MOST_COUNTS];
+    size_t size = counts_of(n, k, counts);
+    size_t i;
+    for (i = 0; i < size; i++) {
+        uint8_t room[ANY_ROOM];
+        q.count = counts[i];
+        DEMAND(is_number(&q, ask(&q, room, sizeof room), TBEXLUM_ANSWERED));
+        DEMAND(tells(&q, 0, TBEXLUM_REFUSED_SHORT_ROOM, NULL, 0));
+    }
+    size = wrong_counts_of(n, k, counts);
+    for (i = 0; i < size; i++) {
+        struct question wrong;
+        q.count = counts[i];
+        DEMAND(refuses_once(q, TBEXLUM_REFUSED_BAD_HALL));
+        wrong = q;
+        wrong.bytes = NULL;
+        wrong.length = 0;
+        wrong.from = HUGE_WORD;
+        wrong.retry = 255;
+        DEMAND(refuses_once(wrong, TBEXLUM_REFUSED_BAD_HALL));
+    }
+    DEMAND(refuses(with_count(q, full_count(n, k) + 1), TBEXLUM_REFUSED_BAD_HALL));
+    DEMAND(refuses(with_count(q, HUGE_WORD), TBEXLUM_REFUSED_BAD_HALL));
+    DEMAND(k >= 2 || refuses(with_count(q, 0), TBEXLUM_REFUSED_BAD_HALL));
+}
+
+static void route_asks_count(uint32_t n, uint32_t k, uint32_t b)
+{
+    asks_count(ROUTE, n, k, b);
+}
+
+static void table_asks_count(uint32_t n, uint32_t k, uint32_t b)
+{
+    asks_count(TABLE, n, k, b);
+}
+
+static void step_asks_count(uint32_t n, uint32_t k, uint32_t b)
+{
+    asks_count(STEP, n, k, b);
+}
+
+static void route_counts(void)
+{
+    each_hall(route_asks_count);
+}
+
+static void table_counts(void)
+{
+    each_hall(table_asks_count);
+}
+
+static void step_counts(void)
+{
+    each_hall(step_asks_count);
+}
+
+/* The uids of servers that are not fitted are uids: with no DCell1 fitted, those below t(k) are answered and the others are refused by 2.
+ * Tables have the lengths that they have in a full hall. */
+static void empty_hall(uint32_t n, uint32_t k, uint32_t b)
+{
+    uint32_t t = servers_of(n, k);
+    struct question route = with_count(sound_question(ROUTE, n, k, b), 0);
+    struct question table = with_count(sound_question(TABLE, n, k, b), 0);
+    struct question step = with_count(sound_question(STEP, n, k, b), 0);
+    if (k < 2) {
+        return;
+    }
+    DEMAND_OF(route, is_answered(route));
+    DEMAND_OF(table, is_answered(table));
+    DEMAND_OF(step, is_answered(step) && is_answered(with_proxy(step, t - 1)));
+    DEMAND(refuses_once(with_proxy(step, t), TBEXLUM_REFUSED_BAD_UID));
+    step.retry = 16;
+    DEMAND(refuses_once(step, TBEXLUM_REFUSED_BAD_RETRY));
+    step.to = t;
+    DEMAND(refuses_once(step, TBEXLUM_REFUSED_BAD_UID));
+    route.to = t;
+    DEMAND(refuses_once(route, TBEXLUM_REFUSED_BAD_UID));
+    table.from = t;
+    DEMAND(refuses_once(table, TBEXLUM_REFUSED_BAD_UID));
+    table.length--;
+    DEMAND(refuses_once(table, TBEXLUM_REFUSED_BAD_LENGTH));
+    step.length--;
+    DEMAND(refuses_once(step, TBEXLUM_REFUSED_BAD_LENGTH));
+}
+
+static void empty_halls(void)
+{
+    each_hall(empty_hall);
+}
+
+/* A route is that of the full hall. */
+static void route_any_count(uint32_t n, uint32_t k, uint32_t b)
+{
+    uint32_t counts[MOST_COUNTS];
+    size_t size = counts_of(n, k, counts);
+    size_t i;
+    for (i = 0; i < RANDOM_QUESTIONS / 300; i++) {
+        struct question q = route_question(n, k, b, random_below(servers_of(n, k)), random_below(servers_of(n, k)));
+        uint8_t answer[ANY_ROOM];
+        size_t uids = route_uids(n, k, q.from, q.to, answer);
+        q.count = counts[i % size];
+        DEMAND(tells(&q, TBEXLUM_ROUTE_ROOM, TBEXLUM_ANSWERED, answer, uids * TBEXLUM_WORD));
+    }
+}
+
+static void route_any_counts(void)
+{
+    each_hall(route_any_count);
+}
+
+/* n = 2, k = 2, two of seven DCell1s: the servers 0 to 11 are fitted, and every code is 1. By level 2, server 0 is joined to 6 and server 1
+ * to 12. */
+static void part_table_known(void)
+{
+    static const uint8_t nothing[24] = {0};
+    /* b = 1, the servers 6 to 11: the neighbours at level 2 are 0, 13, 19, 25, 31 and 37, and only 0 is fitted. */
+    static const uint8_t of_7[] = {1, 1, 1, 1, 1, 0, 1, 1, 0, 1, 1, 0, 1, 1, 0, 1, 1, 0, 1, 0, 0, 0, 0, 0};
+    uint8_t hall_table[126];
+    uint8_t answer[ANY_ROOM];
+    size_t size = bytes_of(worked_part_table, answer);
+    memset(hall_table, TBEXLUM_PORT_UP, sizeof hall_table);
+    DEMAND(size == 10);
+    DEMAND(answers(with_count(table_question(2, 2, 0, hall_table, 126, 0), 2), answer, size));
+    DEMAND(answers(with_count(table_question(2, 2, 0, hall_table, 126, 1), 2), answer, size));
+    DEMAND(answers(with_count(table_question(2, 2, 1, hall_table, 126, 7), 2), of_7, sizeof of_7));
+    DEMAND(answers(with_count(table_question(2, 2, 0, hall_table, 126, 12), 2), nothing, 10)); /* not fitted */
+    DEMAND(answers(with_count(table_question(2, 2, 1, hall_table, 126, 41), 6), nothing, 24));
+    DEMAND(answers(with_count(table_question(2, 2, 1, hall_table, 126, 0), 0), nothing, 24));
+    DEMAND(answers(table_question(2, 2, 1, hall_table, 126, 41), hall_table, 24)); /* the full hall */
+}
+
+/* Every count and every server of small halls. */
+static void part_tables_small(void)
+{
+    uint32_t k = 2;
+    uint32_t n;
+    uint32_t b;
+    uint32_t count;
+    uint32_t uid;
+    for (n = 2; n <= 3; n++) {
+        for (b = 0; b <= 1; b++) {
+            for (count = 0; count <= full_count(n, k); count++) {
+                for (uid = count % STRIDE; uid < servers_of(n, k); uid += STRIDE) {
+                    DEMAND(tells_table(n, k, b, count, uid));
+                }
+            }
+        }
+    }
+}
+
+/* n = 2, k = 3: every count with a server of every DCell1, and every server with the counts between which it is fitted. */
+static void part_tables_level_3(void)
+{
+    const uint8_t *hall_table = halls.bytes;
+    size_t length = hall_table_length(2, 3);
+    uint32_t b;
+    uint32_t count;
+    uint32_t uid;
+    for (b = 0; b <= 1; b++) {
+        for (count = 0; count <= full_count(2, 3); count += STRIDE) {
+            for (uid = count % 6; uid < 1806; uid += 6) { /* a server of each DCell1 */
+                struct question q = with_count(table_question(2, 3, b, hall_table, length, uid), count);
+                uint8_t answer[ANY_ROOM];
+                uint8_t room[ANY_ROOM];
+                size_t size = step_table_of(2, 3, b, count, hall_table, uid, answer);
+                DEMAND(is_number(&q, ask(&q, room, size), TBEXLUM_ANSWERED) && is_answer(&q, room, answer, size));
+            }
+        }
+        for (uid = 0; uid < 1806; uid += STRIDE) { /* with the last count with which it is not fitted, and the first with which it is */
+            count = turn_of[2][3][uid / 6];
+            DEMAND(!is_fitted(2, 3, count, uid) && is_fitted(2, 3, count + 1, uid));
+            DEMAND(tells_table(2, 3, b, count, uid));
+            DEMAND(tells_table(2, 3, b, count + 1, uid));
+        }
+    }
+}
+
+/* Every hall, at the counts at which something turns: the DCell1 that was fitted last, the one that is next, servers that these are joined
+ * to, and any. */
+static void part_tables(uint32_t n, uint32_t k, uint32_t b)
+{
+    uint32_t counts[MOST_COUNTS];
+    size_t size = counts_of(n, k, counts);
+    uint32_t full = full_count(n, k);
+    uint32_t t1 = servers_of(n, 1);
+    size_t i;
+    uint32_t j;
+    if (k < 2) {
+        return;
+    }
+    for (i = 0; i < size; i++) {
+        for (j = 0; j <= RANDOM_QUESTIONS / 12000; j++) {
+            uint32_t turn = counts[i] == 0 ? 0 : counts[i] - 1;
+            uint32_t last = fitted_in_turn[n][k][turn] * t1 + random_below(t1);
+            uint32_t next = fitted_in_turn[n][k][turn + 1 < full ? turn + 1 : turn] * t1 + random_below(t1);
+            DEMAND(tells_table(n, k, b, counts[i], last));
+            DEMAND(tells_table(n, k, b, counts[i], next));
+            DEMAND(tells_table(n, k, b, counts[i], neighbour_of(n, last, 2 + random_below(k - 1))));
+            DEMAND(tells_table(n, k, b, counts[i], neighbour_of(n, next, 2 + random_below(k - 1))));
+            DEMAND(tells_table(n, k, b, counts[i], random_below(servers_of(n, k))));
+        }
+    }
+}
+
+static void part_tables_each_hall(void)
+{
+    each_hall(part_tables);
+}
+
+/* n = 2, k = 2, b = 0, two of seven DCell1s: server 1 has a packet to 12, its neighbour at level 2, which is not fitted. */
+static void part_step_known(void)
+{
+    uint8_t table[10];
+    uint8_t answer[ANY_ROOM];
+    struct question q = with_count(step_question(2, 2, 0, 1, 12, 5, 15, table, sizeof table), 2);
+    memset(table, TBEXLUM_PORT_UP, sizeof table);
+    DEMAND(bytes_of(worked_part_step, answer) == TBEXLUM_STEP_ROOM);
+    DEMAND(answers(q, answer, TBEXLUM_STEP_ROOM));
+    DEMAND(answers_step(q, TBEXLUM_FORWARDED, 0, packet_of(12, 1, 6, 4, 14), 1));
+    bytes_of(worked_part_table, table); /* the table as the library writes it gives the same answer */
+    DEMAND(answers(q, answer, TBEXLUM_STEP_ROOM));
+    memset(table, TBEXLUM_PORT_UP, sizeof table);
+    DEMAND(ends(with_count(q, 1), TBEXLUM_DROP_PROXY, 0)); /* neither 6 nor 12 is fitted */
+    DEMAND(ends(with_count(q, 0), TBEXLUM_DROP_PROXY, 0));
+    DEMAND(answers_step(with_count(q, 3), TBEXLUM_FORWARDED, 12, packet_of(12, 0, 0, 5, 14), 0));
+    DEMAND(answers_step(with_count(q, 7), TBEXLUM_FORWARDED, 12, packet_of(12, 0, 0, 5, 14), 0));
+    table[8] = 3; /* far codes count as they stand: that of server 1 at level 1 plays no part, and that of server 0 at level 2 does */
+    DEMAND(answers(q, answer, TBEXLUM_STEP_ROOM));
+    table[7] = 3;
+    DEMAND(ends(q, TBEXLUM_DROP_PROXY, 0));
+}
+
+static void part_journeys_known(void)
+{
+    /* n = 2, k = 2, two of seven DCell1s: 12 is not fitted, and its packet goes to and fro between the two until its retry is spent. */
+    static const uint32_t lost[] = {1, 0, 6, 0, 6, 0};
+    static const uint32_t inside[] = {1, 0, 6, 7};
+    /* n = 2, k = 3, 50 of 301 DCell1s: of the eighth DCell2 the servers 294 to 299 are fitted. */
+    static const uint32_t straight[] = {252, 258, 300, 294};
+    static const uint32_t stuck[] = {252, 258};
+    static const uint32_t back[] = {294, 300, 258, 252};
+    static const uint32_t round[] = {294, 6, 0, 1, 4, 5, 252};
+    static uint8_t table[7224];
+    uint32_t b;
+    memset(table, TBEXLUM_PORT_UP, sizeof table);
+    DEMAND(passes_in(2, 2, 0, 2, table, packet_of(12, 0, 0, 5, 15), lost, 6, TBEXLUM_DROP_RETRY, 4));
+    DEMAND(passes_in(2, 2, 0, 2, table, packet_of(12, 0, 0, 5, 4), lost, 5, TBEXLUM_DROP_TTL, 3));
+    DEMAND(passes_in(2, 2, 0, 2, table, packet_of(7, 0, 0, 5, 3), inside, 4, TBEXLUM_DELIVERED, 0));
+    for (b = 0; b <= 1; b++) {
+        DEMAND(passes_in(2, 3, b, 301, table, packet_of(294, 0, 0, 5, 3), straight, 4, TBEXLUM_DELIVERED, 0));
+        DEMAND(passes_in(2, 3, b, 51, table, packet_of(294, 0, 0, 5, 3), straight, 4, TBEXLUM_DELIVERED, 0));
+        DEMAND(passes_in(2, 3, b, 50, table, packet_of(294, 0, 0, 5, 15), stuck, 2, TBEXLUM_DROP_PROXY, 0));
+        DEMAND(passes_in(2, 3, b, 301, table, packet_of(252, 0, 0, 5, 3), back, 4, TBEXLUM_DELIVERED, 0));
+        DEMAND(passes_in(2, 3, b, 51, table, packet_of(252, 0, 0, 5, 3), back, 4, TBEXLUM_DELIVERED, 0));
+        DEMAND(passes_in(2, 3, b, 50, table, packet_of(252, 0, 0, 5, 6), round, 7, TBEXLUM_DELIVERED, 1));
+        DEMAND(passes_in(2, 3, b, 49, table, packet_of(252, 0, 0, 5, 15), back, 1, TBEXLUM_DROP_PROXY, 0)); /* from one not fitted */
+    }
+}
+
+/* At a server that is not fitted no link is usable, whatever its codes are. */
+static void unfitted_steps(uint32_t n, uint32_t k, uint32_t b)
+{
+    uint32_t counts[] = {0, 1, full_count(n, k) - 1};
+    uint32_t last = servers_of(n, k) - 1; /* of the DCell1 that is fitted last */
+    size_t i;
+    if (k < 2) {
+        return;
+    }
+    for (i = 0; i < sizeof counts / sizeof counts[0]; i++) {
+        struct question q = with_count(sound_question(STEP, n, k, b), counts[i]);
+        struct question to_own = q;
+        DEMAND(q.from == last && q.to == 0 && !is_fitted(n, k, counts[i], last));
+        to_own.to = last - 1; /* a server of its own cell */
+        q.ttl = 0;
+        DEMAND(ends_once(q, TBEXLUM_DROP_TTL, 0));
+        q.to = last;
+        DEMAND(ends_once(q, TBEXLUM_DELIVERED, 0));
+        q.to = 0;
+        q.ttl = 255;
+        DEMAND(ends_once(to_own, TBEXLUM_DROP_ROUTE, 0));
+        DEMAND(ends_once(with_proxy(to_own, last - 1), TBEXLUM_DROP_ROUTE, 0));
+        DEMAND(ends_once(with_proxy(to_own, last), TBEXLUM_DROP_ROUTE, 0));
+        for (q.retry = 0; q.retry <= TBEXLUM_MOST_RETRY; q.retry++) {
+            uint32_t ending = q.retry <= 1 ? TBEXLUM_DROP_RETRY : TBEXLUM_DROP_PROXY;
+            DEMAND(ends_once(q, ending, 0));
+            DEMAND(ends_once(with_proxy(q, last), ending, 0)); /* arrived */
+            to_own.retry = q.retry;
+            DEMAND(ends_once(with_proxy(to_own, 0), ending, 0));
+            /* A proxy in the own cell is cleared by one reroute, and then there is no other. */
+            DEMAND(ends_once(with_proxy(q, last - 1), q.retry <= 2 ? TBEXLUM_DROP_RETRY : TBEXLUM_DROP_PROXY, q.retry >= 2));
+        }
+    }
+}
+
+static void part_steps_unfitted(void)
+{
+    each_hall(unfitted_steps);
+}
+
+/* n = 2, k = 2, every port up: each step from each server to each. Where both are fitted, it answers as in the full hall, since a route of
+ * a DCell2 stays in the DCell1s of its ends. No step goes to or from a server that is not fitted. */
+static void part_steps_all_up(void)
+{
+    static uint8_t table[24];
+    uint32_t b;
+    uint32_t count;
+    uint32_t uid;
+    uint32_t dst;
+    memset(table, TBEXLUM_PORT_UP, sizeof table);
+    for (b = 0; b <= 1; b++) {
+        for (count = 0; count <= 7; count++) {
+            for (uid = 0; uid < 42; uid++) {
+                for (dst = 0; dst < 42; dst++) {
+                    struct question full = step_question(2, 2, b, uid, dst, 5, 15, table, step_table_length(2, 2, b));
+                    struct question q = with_count(full, count);
+                    uint8_t answer[TBEXLUM_STEP_ROOM];
+                    uint8_t room[TBEXLUM_STEP_ROOM];
+                    struct stepped a;
+                    DEMAND(is_number(&q, ask(&q, room, sizeof room), TBEXLUM_ANSWERED));
+                    DEMAND(is_number(&full, ask(&full, answer, sizeof answer), TBEXLUM_ANSWERED));
+                    if (is_fitted(2, 2, count, uid) && is_fitted(2, 2, count, dst)) {
+                        DEMAND(is_answer(&q, room, answer, sizeof answer));
+                    }
+                    a = stepped_of(room);
+                    DEMAND_OF(q, (a.ending == TBEXLUM_DELIVERED) == (uid == dst));
+                    DEMAND_OF(q, a.ending != TBEXLUM_FORWARDED || (is_fitted(2, 2, count, uid) && is_fitted(2, 2, count, a.next)));
+                }
+            }
+        }
+    }
+}
+
+/* In a full hall with every port up each step forwards without a reroute, and with b = 0 along the route. The servers of the DCell1 that is
+ * fitted last take part, and those that they are joined to. */
+static void full_steps(uint32_t n, uint32_t k, uint32_t b)
+{
+    struct question q = sound_question(STEP, n, k, b);
+    uint32_t t = servers_of(n, k);
+    uint32_t last = k == 0 ? t : servers_of(n, 1);
+    uint32_t i;
+    for (i = 0; i < RANDOM_QUESTIONS / 300 + 20; i++) {
+        uint8_t route[ANY_ROOM];
+        uint8_t room[TBEXLUM_STEP_ROOM];
+        struct stepped a;
+        q.from = i % 4 == 0 ? t - 1 - random_below(last) : random_below(t);
+        q.to = i % 4 == 1 ? t - 1 - random_below(last) : random_below(t);
+        if (i % 4 == 2 && k >= 2) {
+            q.to = t - 1 - random_below(last);
+            q.from = neighbour_of(n, q.to, 2 + random_below(k - 1));
+        }
+        if (q.from == q.to) {
+            continue;
+        }
+        DEMAND(is_number(&q, ask(&q, room, sizeof room), TBEXLUM_ANSWERED) && route_uids(n, k, q.from, q.to, route) >= 2);
+        a = stepped_of(room);
+        DEMAND_OF(q, a.ending == TBEXLUM_FORWARDED && a.reroutes == 0 && a.packet.has_proxy == 0 && a.packet.retry == q.retry);
+        DEMAND_OF(q, b != 0 || a.next == tbexlum_word_at(route, TBEXLUM_ROUTE_UIDS_AT + TBEXLUM_WORD));
+        DEMAND_OF(q, i % 4 != 2 || k < 2 || a.next == q.to);
+    }
+}
+
+static void full_steps_each_hall(void)
+{
+    each_hall(full_steps);
+}
+
+/* Puts 0 for the codes of the cell, or for the far codes, of a port whose own server or far server is not fitted. */
+static void count_codes(const struct question *q, uint8_t *table, int is_far)
+{
+    uint32_t cell = servers_of(q->n, q->b);
+    uint32_t first = q->from - q->from % cell;
+    uint32_t server;
+    uint32_t port;
+    for (server = 0; server < cell; server++) {
+        for (port = is_far ? q->b + 1 : 0; port <= q->k; port++) {
+            if (!is_port_fitted(q->n, q->k, q->count, first + server, port)) {
+                table[is_far ? far_at(q->n, q->k, q->b, server, port) : server * (q->k + 1) + port] = 0;
+            }
+        }
+    }
+}
+
+/* A step in a hall that is not full, over codes of which one of `broken` is any. */
+static struct question random_part_step(uint8_t *table, uint32_t broken)
+{
+    uint32_t n = 2 + random_below(7);
+    uint32_t k = 2 + random_below(2);
+    uint32_t b = random_below(2);
+    size_t length = step_table_length(n, k, b);
+    uint32_t t = servers_of(n, k);
+    struct question q;
+    size_t i;
+    for (i = 0; i < length; i++) {
+        table[i] = random_below(broken) == 0 ? (uint8_t)random_below(6) : (uint8_t)TBEXLUM_PORT_UP;
+    }
+    q = step_question(n, k, b, random_below(t), random_below(t), (uint8_t)random_below(16), (uint8_t)(1 + random_below(255)), table,
+                      length);
+    q.count = random_count(n, k, q.from);
+    if (random_below(2) == 0) { /* to a server that is near, or that is fitted */
+        q.to = random_below(2) == 0 || q.count == 0 ? neighbour_of(n, q.from, 1 + random_below(k)) : random_fitted(n, k, q.count);
+    }
+    return random_below(4) == 0 ? with_proxy(q, random_below(t)) : q;
+}
+
+/* A step in a hall that is not full answers what the full hall answers over the codes as they count. It makes no difference whether the
+ * codes that count as 0 are 0 in the table that it is lent, nor whether the far codes of the same links are. */
+static void part_steps_counted(void)
+{
+    uint8_t table[LONGEST_TABLE];
+    uint32_t changed = 0;
+    uint32_t forwarded = 0;
+    uint32_t i;
+    for (i = 0; i < RANDOM_QUESTIONS; i++) {
+        struct question q = random_part_step(table, 2u << random_below(6));
+        struct question full = with_count(q, full_count(q.n, q.k));
+        uint8_t answer[TBEXLUM_STEP_ROOM];
+        uint8_t room[TBEXLUM_STEP_ROOM];
+        int is_far;
+        DEMAND(is_number(&q, ask(&q, answer, sizeof answer), TBEXLUM_ANSWERED));
+        DEMAND(is_number(&full, ask(&full, room, sizeof room), TBEXLUM_ANSWERED));
+        changed += memcmp(room, answer, sizeof answer) != 0;
+        forwarded += stepped_of(answer).ending == TBEXLUM_FORWARDED && q.count < full.count;
+        for (is_far = 0; is_far < 2; is_far++) {
+            count_codes(&q, table, is_far);
+            DEMAND(is_number(&full, ask(&full, room, sizeof room), TBEXLUM_ANSWERED) && is_answer(&q, answer, room, sizeof room));
+            DEMAND(is_number(&q, ask(&q, room, sizeof room), TBEXLUM_ANSWERED) && is_answer(&q, room, answer, sizeof room));
+        }
+    }
+    DEMAND(changed > RANDOM_QUESTIONS / 20 && forwarded > RANDOM_QUESTIONS / 20); /* the questions are worth asking */
+}
+
+/* Journeys in halls that are not full, by the library's own tables of steps: each ends, within its TTL, and crosses only links whose ports
+ * have code 1 at both ends and whose servers are both fitted. */
+static void part_journeys(void)
+{
+    static uint8_t hall_table[8192];
+    uint32_t journeys = RANDOM_QUESTIONS / 4 + 400;
+    uint32_t endings[6] = {0, 0, 0, 0, 0, 0};
+    uint32_t levels[4] = {0, 0, 0, 0};
+    uint32_t turned_back = 0;
+    uint32_t i;
+    size_t byte;
+    struct question q = step_question(2, 2, 0, 0, 0, 0, 0, NULL, 0);
+    for (i = 0; i < journeys; i++) {
+        struct stepped a;
+        uint32_t links = 0;
+        if (i % 4 == 0) { /* another hall */
+            uint32_t broken = 2u << random_below(8);
+            uint32_t k = 2 + random_below(2);
+            do {
+                q = step_question(2 + random_below(7), k, random_below(2), 0, 0, 0, 0, NULL, 0);
+            } while (hall_table_length(q.n, k) > sizeof hall_table);
+            for (byte = 0; byte < hall_table_length(q.n, q.k); byte++) {
+                hall_table[byte] = random_below(broken) == 0 ? (uint8_t)random_below(6) : (uint8_t)TBEXLUM_PORT_UP;
+            }
+            q.count = random_below(full_count(q.n, q.k));
+        }
+        q.from = q.count == 0 || random_below(8) == 0 ? random_below(servers_of(q.n, q.k)) : random_fitted(q.n, q.k, q.count);
+        q.to = q.count == 0 || random_below(4) == 0 ? random_below(servers_of(q.n, q.k)) : random_fitted(q.n, q.k, q.count);
+        if (random_below(8) == 0) { /* to the same switch */
+            q.to = q.from - q.from % q.n + random_below(q.n);
+        }
+        q.has_proxy = random_below(4) == 0;
+        q.proxy = random_below(servers_of(q.n, q.k));
+        q.retry = (uint8_t)random_below(16);
+        q.ttl = (uint8_t)(random_below(4) == 0 ? random_below(8) : 255);
+        a.packet = packet_in(&q);
+        for (;;) {
+            uint32_t level;
+            a = step_over(q.n, q.k, q.b, q.count, hall_table, q.from, a.packet);
+            if (a.ending != TBEXLUM_FORWARDED) {
+                break;
+            }
+            links++;
+            DEMAND_OF(q, a.next < servers_of(q.n, q.k) && links <= q.ttl && a.packet.ttl + links == q.ttl);
+            if (!is_good) {
+                return;
+            }
+            level = level_of(q.n, q.k, q.from, a.next);
+            DEMAND_OF(q, are_joined(q.n, level, q.from, a.next));
+            DEMAND_OF(q, is_fitted(q.n, q.k, q.count, q.from) && is_fitted(q.n, q.k, q.count, a.next));
+            DEMAND_OF(q, code_of(q.k, hall_table, q.from, level) == TBEXLUM_PORT_UP);
+            DEMAND_OF(q, code_of(q.k, hall_table, a.next, level) == TBEXLUM_PORT_UP);
+            levels[level]++;
+            q.from = a.next;
+        }
+        DEMAND_OF(q, a.ending <= TBEXLUM_DELIVERED && (a.ending == TBEXLUM_DELIVERED) == (q.from == q.to));
+        DEMAND_OF(q, a.ending != TBEXLUM_DROP_TTL || links == q.ttl);
+        endings[a.ending % 6]++;
+        turned_back += !is_fitted(q.n, q.k, q.count, q.to) && links > 0;
+    }
+    for (i = TBEXLUM_DROP_TTL; i <= TBEXLUM_DELIVERED; i++) {
+        DEMAND(endings[i] > journeys / 100); /* the journeys are worth taking */
+    }
+    for (i = 0; i < 4; i++) {
+        DEMAND(levels[i] > journeys / 20);
+    }
+    DEMAND(turned_back > journeys / 100);
+}
+
 /* ---- The header's version and helpers ---- */
 
 #ifdef INSTALLED_VERSION
@@ -2148,7 +2991,7 @@ static void helper_refusals(void)
 {
     static const char *const texts[] = {
         "answered, not refused",
-        "n, k or b is outside its range",
+        "n, k, b or the count of the hall is outside its range",
         "a uid is not below t(k)",
         NULL,
         "the table does not have the length that the call asks for",
@@ -2241,6 +3084,9 @@ static void ask_deep_steps(void)
     q = with_proxy(step_question(8, 3, 1, 0, 27630791u, 15, 255, large, sizeof large), 5);
     DEMAND(answers_step(q, TBEXLUM_FORWARDED, 7, packet_of(27630791u, 1, 373176, 13, 254), 2));
     ask_deep(&q);
+    q.count--; /* not full: each of these servers is asked for */
+    DEMAND(answers_step(q, TBEXLUM_FORWARDED, 7, packet_of(27630791u, 1, 373176, 13, 254), 2));
+    ask_deep(&q);
 }
 
 /* The stack that calls take, with that of the function that makes them: the most over random questions and the deepest steps. */
@@ -2292,6 +3138,7 @@ int main(int count, char **words)
     printf("seed %" PRIu64 "\n", seed);
     seed = (seed + 1) * 0x9E3779B97F4A7C15u | 1u;
     prepare_pages();
+    prepare_fitted();
 
     run("route: 5 to 11 of n = 2, k = 2 is 5 4 1 0 6 7 10 11, in rooms of every length", route_known);
     run("route: from a server to itself is that server", route_itself);
@@ -2350,6 +3197,24 @@ int main(int count, char **words)
     run("step: the port of the lowest level that holds both is up at both ends and leads to the next server", step_ports);
     run("step: without a reroute it looks at one far code, that of its route's first link above b", step_one_far);
     run("step table and step: random journeys end, and cross only links that are up at both ends", step_random_journeys);
+
+    run("fitted: the paper's procedure gives each DCell1 one turn, which docs/DRIVER.md works out", fitted_turns);
+    run("route: in every hall, the counts that it can have are answered, and all others are refused by 1", route_counts);
+    run("step table: in every hall, the counts that it can have are answered, and all others are refused by 1", table_counts);
+    run("step: in every hall, the counts that it can have are answered, and all others are refused by 1", step_counts);
+    run("full: in every hall with every port up, a step forwards without a reroute, and with b = 0 along the route", full_steps_each_hall);
+    run("not full: uids of servers that are not fitted are uids, and tables have their lengths", empty_halls);
+    run("not full: a route is that of the full hall", route_any_counts);
+    run("not full: the known tables of a step, in rooms of every length", part_table_known);
+    run("not full: in small halls with k = 2, each code of a step's table is as it counts, with every count", part_tables_small);
+    run("not full: in the hall n = 2, k = 3, each code of a step's table is as it counts, with every count", part_tables_level_3);
+    run("not full: in every hall, each code of a step's table is as it counts, where something turns", part_tables_each_hall);
+    run("not full: the known step, in rooms of every length", part_step_known);
+    run("not full: the known journeys, step by step", part_journeys_known);
+    run("not full: at a server that is not fitted, a step delivers or drops", part_steps_unfitted);
+    run("not full: with every port up, a DCell2 forwards between fitted servers as if it were full", part_steps_all_up);
+    run("not full: a step answers what the full hall answers over the codes as they count", part_steps_counted);
+    run("not full: random journeys end within their TTL, and cross only links between fitted servers", part_journeys);
 
     run("read and place: any frame has the place of its number, and 0 where no field is at fault", any_place);
     run("all: any question gets a number of its call, and only the answer's bytes change", any_question);

@@ -33,12 +33,14 @@ expect() { # TEST STATUS TEXT ERROR COMMAND..
 whole() { cat "$1" && printf x; }
 small=$(whole examples/small.expected); small=${small%x}
 large=$(whole examples/large.expected); large=${large%x}
+filling=$(whole examples/filling.expected); filling=${filling%x}
 refused=$(whole examples/unknown-code.expected); refused=${refused%x}
 words="refused 5 at byte 18: unknown code 7, port 1 of server 3"$'\n'
 told="trace: examples/unknown-code.sheet: $words"
 
 expect "the small example" 0 "$small" "" "$command" examples/small.sheet
 expect "the large example" 0 "$large" "" "$command" examples/large.sheet
+expect "the example of a hall that is not full" 0 "$filling" "" "$command" examples/filling.sheet
 expect "an unknown code is refused with its place" 1 "$refused" "$told" "$command" examples/unknown-code.sheet
 expect "several sheets are traced in order" 0 "$small$large$small" \
     $'== examples/small.sheet\n== examples/large.sheet\n== examples/small.sheet\n' \
@@ -125,6 +127,20 @@ most=5829
 deep=$(echo "HALL 2 3 0"; yes "0 0 DELIVERED 0 0 : 0" | head -n $most; echo "END $most")$'\n'
 expect "the hall of n = 2 and k = 3 with $most packets" 0 "$deep" "" "$command" "$folder/deep.sheet"
 
+# A hall of n = 6 and k = 2 with 42 of its 43 DCell1s, and so many packets: the sheet has room for one fewer than that of the full hall.
+part_of_six() { # THIRD-COUNT PACKETS
+    printf '\0\0\0\007\006\002\0\0\0\0\052\0\0\025\052'
+    head -c 5418 /dev/zero | tr '\0' '\1'
+    printf %b "$1"
+    head -c $((10 * $2)) /dev/zero
+}
+most=6009
+part_of_six '\0\0\027\0171' $most >"$folder/part.sheet"
+all=$(echo "HALL 6 2 0"; yes "0 0 DELIVERED 0 0 : 0" | head -n $most; echo "END $most")$'\n'
+expect "the hall of n = 6 and k = 2, which is not full, with $most packets" 0 "$all" "" "$command" "$folder/part.sheet"
+part_of_six '\0\0\027\0172' $((most + 1)) >"$folder/longer.sheet"
+expect "one packet more is too long" 1 "REFUSED 10 65536"$'\n' "trace: $folder/longer.sheet: $long" "$command" "$folder/longer.sheet"
+
 # Every byte value reaches the program as it stands: a packet with the TTL of that value, against the program by itself.
 every_value() {
     for i in $(seq 0 255); do printf '\0\0\0\0\0\0\0\023\005%b' "\\0$(printf %o "$i")"; done >"$folder/values"
@@ -158,18 +174,19 @@ closed_error() { "$command" "$@" 2>&-; }
 expect "a closed standard error" 2 "$refused" "" closed_error examples/unknown-code.sheet
 expect "a closed standard error, where nothing is said" 0 "$small" "" closed_error examples/small.sheet
 
-# A refusal in words: the small example with other bytes at an offset, or cut, or with more behind it.
-changed() { # OFFSET LENGTH BYTES
-    head -c "$1" examples/small.sheet
+# A refusal in words: an example, by default the small one, with other bytes at an offset, or cut, or with more behind it.
+changed() { # OFFSET LENGTH BYTES [SHEET]
+    local sheet=${4-examples/small.sheet}
+    head -c "$1" "$sheet"
     printf %b "$3"
-    tail -c "+$(($1 + $2 + 1))" examples/small.sheet
+    tail -c "+$(($1 + $2 + 1))" "$sheet"
 }
 refuses() { # NUMBER PLACE WORDS, the sheet on standard input
     cat >"$folder/fault.sheet"
     expect "refusal $1 at byte $2: $3" 1 "REFUSED $1 $2"$'\n' "trace: $folder/fault.sheet: refused $1 at byte $2: $3"$'\n' \
         "$command" "$folder/fault.sheet"
 }
-refuses 4 0 "the first count is 4294967295, and it must be 3" < <(changed 0 4 '\0377\0377\0377\0377')
+refuses 4 0 "the first count is 4294967295, and it must be 3 or 7" < <(changed 0 4 '\0377\0377\0377\0377')
 refuses 1 4 "n is 9, and it must be 2 to 8" < <(changed 4 1 '\011')
 refuses 1 5 "k is 4, and it must be 0 to 3" < <(changed 5 1 '\04')
 refuses 1 6 "b is 2, and it must be 0 or 1" < <(changed 6 1 '\02')
@@ -185,8 +202,8 @@ refuses 2 55 "packet 1 of 1 has the source 20, and the servers are 0 to 19" < <(
 refuses 2 69 "packet 2 of 2 has the dst 4294967295, and the servers are 0 to 19" < <(two '\0\0\0\023\0377\0377\0377\0377\05\017')
 refuses 8 73 "packet 2 of 2 has the retry 16, and it must be 0 to 15" < <(two '\0\0\0\023\0\0\0\0\020\017')
 refuses 10 65 "$left 1, so it should have 65 bytes, and it has 67" < <(changed 65 0 ab)
-cut() { # LENGTH WORDS
-    refuses 10 "$1" "the sheet is cut: it ends at byte $1, $2" < <(head -c "$1" examples/small.sheet)
+cut() { # LENGTH WORDS [SHEET]
+    refuses 10 "$1" "the sheet is cut: it ends at byte $1, $2" < <(head -c "$1" "${3-examples/small.sheet}")
 }
 cut 2 "inside the first count"
 cut 4 "before n"
@@ -200,6 +217,58 @@ cut 53 "inside the third count"
 cut 55 "before packet 1 of 1"
 cut 64 "inside packet 1 of 1"
 refuses 10 65 "the sheet is cut: it ends at byte 65, before packet 2 of 4294967295" < <(changed 51 4 '\0377\0377\0377\0377')
+
+# The same of a hall that is not full: behind b stands the count of DCell1s, and all else stands four bytes later.
+part=examples/filling.sheet
+range="and it must be 0 to 6: the sheet of a full hall has no such count"
+refuses 1 7 "the count of DCell1s is 7, $range" < <(changed 10 1 '\07' $part)
+refuses 1 7 "the count of DCell1s is 8, $range" < <(changed 10 1 '\010' $part)
+refuses 1 7 "the count of DCell1s is 4294967295, $range" < <(changed 7 4 '\0377\0377\0377\0377' $part)
+refuses 1 7 "the count of DCell1s is 301, and it must be 0 to 300: the sheet of a full hall has no such count" \
+    < <(changed 5 6 '\03\0\0\0\01\055' $part)
+refuses 1 7 "there is a count of DCell1s, and there must be none, because k is 1" < <(changed 3 4 '\07\04\01\0\0\0\0\01')
+refuses 1 7 "there is a count of DCell1s, and there must be none, because k is 0" < <(changed 5 6 '\0\0\0\0\0\0' $part)
+refuses 1 6 "b is 2, and it must be 0 or 1" < <(changed 6 5 '\02\0\0\0\07' $part)
+refuses 4 11 "the second count is 127, and it must be 126 (servers x ports: 42 x 3)" < <(changed 14 1 '\0177' $part)
+refuses 4 7 "the second count is 3, and it must be 126 (servers x ports: 42 x 3)" < <(changed 3 1 '\03' $part)
+refuses 5 140 "unknown code 5, port 2 of server 41" < <(changed 140 1 '\05' $part)
+refuses 2 145 "packet 1 of 6 has the source 42, and the servers are 0 to 41" < <(changed 148 1 '\052' $part)
+refuses 8 203 "packet 6 of 6 has the retry 16, and it must be 0 to 15" < <(changed 203 1 '\020' $part)
+refuses 10 205 "$left 6, so it should have 205 bytes, and it has 206" < <(changed 205 0 a $part)
+cut 6 "before b" $part
+cut 7 "before the count of DCell1s" $part
+cut 10 "inside the count of DCell1s" $part
+cut 11 "before the second count" $part
+cut 14 "inside the second count" $part
+cut 15 "inside the hall table, before port 0 of server 0" $part
+cut 140 "inside the hall table, before port 2 of server 41" $part
+cut 141 "before the third count" $part
+cut 145 "before packet 1 of 6" $part
+cut 204 "inside packet 6 of 6" $part
+
+# The codes and packets of that hall with other counts: nothing fitted, and the full hall, whose first section has 3 bytes.
+changed 10 1 '\0' $part >"$folder/nothing.sheet"
+expect "a hall of which nothing is fitted" 0 "\
+HALL 2 2 1
+4 16 DROP4 0 0 : 4
+2 8 DROP4 0 0 : 2
+0 20 DROP4 0 0 : 0
+20 0 DROP4 0 0 : 20
+20 22 DROP2 0 0 : 20
+20 20 DELIVERED 0 0 : 20
+END 6
+" "" "$command" "$folder/nothing.sheet"
+changed 3 8 '\03\02\02\01' $part >"$folder/full.sheet"
+expect "the same hall when it is full" 0 "\
+HALL 2 2 1
+4 16 DELIVERED 4 0 : 4 1 12 13 16
+2 8 DELIVERED 3 1 : 2 18 19 8
+0 20 DELIVERED 3 0 : 0 2 18 20
+20 0 DELIVERED 3 0 : 20 18 2 0
+20 22 DELIVERED 3 0 : 20 18 19 22
+20 20 DELIVERED 0 0 : 20
+END 6
+" "" "$command" "$folder/full.sheet"
 
 mkdir "$folder/a folder"
 cp examples/small.sheet "$folder/a folder/a sheet"

@@ -2,11 +2,12 @@
 
 use crate::forward::{journey, step, Packet};
 use crate::hall::{
-    b_fits, cell, k_fits, link, n_fits, neighbour, servers_of, sizes, tuple_of, uid_of, Hall,
+    b_fits, cell, k_fits, link, n_fits, neighbour, racks_of, servers_of, sizes, tuple_of, uid_of,
+    Hall,
 };
 use crate::random::Random;
 use crate::route::{first_link, route, route_words};
-use crate::{broadcast, frame, local, naive, ports, report, sheet};
+use crate::{broadcast, frame, local, naive, plan, ports, report, sheet};
 
 /// A number that is small, near a bound, or any at all.
 fn number(random: &mut Random) -> u32 {
@@ -23,10 +24,14 @@ fn number(random: &mut Random) -> u32 {
 fn hall(random: &mut Random) -> Hall {
     let halls = naive::small_halls();
     let mut h = halls[random.below(halls.len() as u32) as usize];
+    if random.once_in(2) && h.k >= 2 {
+        h.count = random.below(h.count + 1);
+    }
     match random.below(12) {
         0 => h.n = number(random),
         1 => h.k = number(random),
         2 => h.b = number(random),
+        3 => h.count = number(random),
         _ => {}
     }
     h
@@ -100,8 +105,19 @@ fn hall_and_route_calls_answer_any_numbers() {
         assert!([0, 1, 2, 3].contains(&cell(h, x, level).refusal));
         assert!([0, 1, 2, 3].contains(&neighbour(h, x, level).refusal));
         assert!([0, 1, 2, 3].contains(&link(h, x, level, p, q).refusal));
-        let fits = n_fits(h.n) && k_fits(h.n, h.k) && b_fits(h.k, h.b);
+        let counts = if h.k < 2 {
+            1..=1
+        } else {
+            0..=racks_of(h.n, h.k)
+        };
+        let fits = n_fits(h.n) && k_fits(h.n, h.k) && b_fits(h.k, h.b) && counts.contains(&h.count);
         assert_eq!(fits, sizes(h).refusal == 0);
+        let next = plan::next_prefix(h);
+        assert!([0, 1, 12].contains(&next.refusal));
+        assert!(next.refusal == 0 || next.tuple == [0; 4]);
+        let around = plan::fitted_servers(h, x);
+        assert!(around == 0 || fits && h.k >= 2);
+        assert!(!plan::is_fitted(h, x) || fits && (around > 0 || h.k < 2));
         assert_eq!(fits, servers_of(h) > 0);
         let answer = route(h, x, y);
         let first = first_link(h, x, y);
@@ -142,7 +158,14 @@ fn table_calls_answer_any_numbers_and_bytes() {
         assert_eq!(refusal == 0, !part.is_empty());
         let mut lent = vec![0xEE; random.below(120) as usize];
         match ports::step_table(h, &whole, x, &mut lent) {
-            0 => assert!(lent.starts_with(part) && refusal == 0),
+            0 => {
+                assert!(lent.len() >= part.len() && refusal == 0);
+                let written = lent.iter().zip(part);
+                assert!(written.clone().all(|(&to, &from)| to == from || to == 0));
+                assert!(
+                    h.count < racks_of(h.n, h.k) || written.clone().all(|(to, from)| to == from)
+                );
+            }
             number => {
                 assert!(number == refusal || (refusal, number) == (0, 6));
                 assert!(lent.iter().all(|&byte| byte == 0xEE));
@@ -211,7 +234,11 @@ fn sheet_calls_answer_any_bytes() {
     for _ in 0..5_000 {
         let h = hall(&mut random);
         let codes = table(&mut random, h, h.k);
-        let mut bytes = vec![0, 0, 0, 3, h.n as u8, h.k as u8, h.b as u8];
+        let section = if random.once_in(2) { 3 } else { 7 };
+        let mut bytes = vec![0, 0, 0, section, h.n as u8, h.k as u8, h.b as u8];
+        if section == 7 {
+            bytes.extend(h.count.to_be_bytes());
+        }
         bytes.extend((codes.len() as u32).to_be_bytes());
         bytes.extend(codes);
         let packets = random.below(5);
@@ -227,7 +254,8 @@ fn sheet_calls_answer_any_bytes() {
         assert!([0, 3].contains(&fields.refusal) && fields.place == 0);
         let at = number(&mut random) as usize;
         assert!(at + 4 <= bytes.len() || sheet::word_at(&bytes, at) == 0);
-        assert_eq!(sheet::word_at(&bytes, 0), 3);
+        assert_eq!(sheet::word_at(&bytes, 0), u32::from(section));
+        assert!(read.refusal != 0 || (read.count == racks_of(read.n, read.k)) == (section == 3));
         let part = sheet::codes_part(&bytes);
         assert!(part == sheet::codes(&bytes) || read.refusal != 0);
         let text = report::trace(&bytes);
@@ -249,10 +277,10 @@ fn sheet_calls_answer_any_bytes() {
 fn line_calls_answer_any_numbers() {
     let mut random = Random::new(106);
     for _ in 0..5_000 {
-        let [n, k, b, ending, links] = [(); 5].map(|()| number(&mut random));
+        let [n, k, b, count, ending, links] = [(); 6].map(|()| number(&mut random));
         let uids = vec![random.word(); random.below(20) as usize];
         let mut text = Vec::new();
-        report::hall_line(&mut text, Hall { n, k, b });
+        report::hall_line(&mut text, Hall { n, k, b, count });
         report::refused_line(&mut text, n, k);
         report::packet_line(&mut text, n, k, ending, links, b, &uids);
         let text = String::from_utf8(text).unwrap();

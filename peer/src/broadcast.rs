@@ -1,6 +1,7 @@
 //! The rounds in which a broadcast reaches the servers of a DCell.
 
 use crate::hall::{self, partner, Hall, Scale};
+use crate::plan::Filling;
 use crate::ports::{self, UP};
 use crate::refusal;
 
@@ -45,7 +46,10 @@ pub fn broadcast(h: Hall, source: u32, scope: u32, table: &[u8], room: &mut [u16
         return refused(refusal::ROOM);
     };
     let first = scale.first(source, scope);
-    let table = ports::cell_part(scale, h.k, table, first, scope);
+    let mut table = ports::cell_part(scale, h.k, table, first, scope);
+    if let Some(filling) = Filling::of(h, scale) {
+        table = filling.counted(first, table);
+    }
     let flood = Flood::new(h, scale, table, rounds);
     match scope {
         0 => flood.run::<0>(source - first),
@@ -55,7 +59,7 @@ pub fn broadcast(h: Hall, source: u32, scope: u32, table: &[u8], room: &mut [u16
 }
 
 /// A queue search through one DCell(scope), whose servers go by their place in it. A switch is crossed once only, as its servers are
-/// all reached by the first crossing. Whoever runs it keeps the two ends of the queue.
+/// all reached by the first crossing. No port behind the table's end is up. Whoever runs it keeps the two ends of the queue.
 struct Flood<'a> {
     scale: &'static Scale,
     n: u32,
@@ -159,7 +163,7 @@ mod tests {
     use crate::naive;
     use crate::random::Random;
 
-    const HALL: Hall = Hall { n: 4, k: 1, b: 0 };
+    const HALL: Hall = Hall::full(4, 1, 0);
 
     #[test]
     fn from_0_server_4_is_reached_in_round_1_and_19_in_round_3() {
@@ -203,13 +207,13 @@ mod tests {
             assert_eq!(room, [7; 19]);
             answer.refusal
         };
-        assert_eq!(ask(Hall { n: 4, k: 0, b: 1 }, 99, 9, &[]), 1);
+        assert_eq!(ask(Hall::full(4, 0, 1), 99, 9, &[]), 1);
         assert_eq!(ask(HALL, 99, 9, &[1; 39]), 4);
         assert_eq!(ask(HALL, 20, 9, &[1; 40]), 2);
         assert_eq!(ask(HALL, 0, 2, &[1; 40]), 11);
         assert_eq!(ask(HALL, 0, u32::MAX, &[1; 40]), 11);
         assert_eq!(ask(HALL, 0, 1, &[1; 40]), 6);
-        let tall = Hall { n: 2, k: 3, b: 0 };
+        let tall = Hall::full(2, 3, 0);
         assert_eq!(ask(tall, 0, 3, &[1; 7224]), 11);
     }
 
@@ -220,7 +224,7 @@ mod tests {
             let table = naive::table(&mut random, 60, 4);
             let ask = |b| {
                 let mut room = [0; 20];
-                let answer = broadcast(Hall { n: 4, k: 1, b }, 3, 1, &table[..40], &mut room);
+                let answer = broadcast(Hall::full(4, 1, b), 3, 1, &table[..40], &mut room);
                 (answer, room)
             };
             assert_eq!(ask(0), ask(1));
@@ -229,11 +233,58 @@ mod tests {
 
     #[test]
     fn the_largest_broadcast_reaches_5256_servers() {
-        let h = Hall { n: 8, k: 2, b: 1 };
+        let h = Hall::full(8, 2, 1);
         let mut room = vec![0; CELL_ROOM];
         let answer = broadcast(h, 17, 2, &[1; CELL_ROOM * 3], &mut room);
         assert_eq!(answer.reached as usize, CELL_ROOM);
         assert_eq!(room.iter().max().copied(), Some(answer.last as u16));
+    }
+
+    #[test]
+    fn of_a_hall_that_is_not_full_the_fitted_servers_alone_are_reached() {
+        let mut room = [7; 42];
+        for count in 0..=7 {
+            let h = Hall {
+                count,
+                ..Hall::full(2, 2, 0)
+            };
+            for source in 0..42 {
+                let fitted = source < count * 6;
+                let answer = broadcast(h, source, 2, &[1; 126], &mut room);
+                let reached = if fitted { count * 6 } else { 1 };
+                assert_eq!((answer.refusal, answer.reached), (0, reached));
+                assert_eq!(answer.last == 0, !fitted);
+                assert_eq!(room[source as usize], 0);
+                let there = room.iter().filter(|&&round| round < NO_ROUND);
+                assert_eq!(there.count() as u32, reached);
+            }
+        }
+    }
+
+    #[test]
+    fn rounds_in_a_hall_that_is_not_full_are_those_of_the_codes_that_count() {
+        let mut random = Random::new(43);
+        for turn in 0..8 {
+            let halls = naive::part_halls(&mut random).into_iter();
+            for h in halls.filter(|h| h.b == turn % 2) {
+                let codes = naive::servers(h) * (h.k + 1);
+                let table = naive::table(&mut random, codes as usize, [0, 5][turn as usize % 2]);
+                let counted = naive::counted(h, &table);
+                let whole = Hall::full(h.n, h.k, h.b);
+                for scope in 0..=2 {
+                    let t = naive::size(h.n, scope) as usize;
+                    let source = random.below(naive::servers(h));
+                    let (mut room, mut expected) = (vec![7; t + 1], vec![7; t + 1]);
+                    let answer = broadcast(h, source, scope, &table, &mut room);
+                    let literal = broadcast(whole, source, scope, &counted, &mut expected);
+                    assert_eq!(
+                        (answer, room),
+                        (literal, expected),
+                        "{h:?} {source} {scope}"
+                    );
+                }
+            }
+        }
     }
 
     #[test]

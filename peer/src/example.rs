@@ -4,7 +4,7 @@ use peer::hall::{self, Hall};
 use peer::ports::UP;
 
 /// The hall of the example: 1,806 servers in 43 DCell(1)s of 42.
-const HALL: Hall = Hall { n: 6, k: 2, b: 1 };
+const HALL: Hall = Hall::full(6, 2, 1);
 /// The servers of the hall.
 const SERVERS: u32 = 1_806;
 /// The servers of a DCell(1).

@@ -2,6 +2,7 @@
 
 use crate::hall::{self, Hall, Scale};
 use crate::local::{LocalCell, NO_DISTANCE};
+use crate::plan::Filling;
 use crate::ports::{self, UP};
 use crate::refusal;
 use crate::route::Way;
@@ -82,7 +83,12 @@ pub fn step(h: Hall, uid: u32, packet: Packet, step_table: &[u8]) -> Step {
         return refused(fault);
     }
     let first = scale.first(uid, h.b);
-    let far = LentCodes { h, codes: far };
+    let far = &LentCodes { h, codes: far };
+    let Some(filling) = Filling::of(h, scale) else {
+        return Site::new(h, scale, uid, first, near, far).step(packet.plain());
+    };
+    let near = filling.counted(first, near);
+    let far = Fitted { filling, far };
     Site::new(h, scale, uid, first, near, &far).step(packet.plain())
 }
 
@@ -123,10 +129,40 @@ fn journey_by(
     if fault != refusal::NONE {
         return refused(fault);
     }
-    travel(h, scale, source, packet.plain(), hall_table, far)
+    let packet = packet.plain();
+    match Filling::of(h, scale) {
+        None => travel(h, scale, source, packet, hall_table, far),
+        Some(filling) => travel_part(
+            h,
+            scale,
+            source,
+            packet,
+            hall_table,
+            Fitted { filling, far },
+        ),
+    }
 }
 
-/// The journey of a sound packet through a table of the right length.
+/// The journey of a sound packet through a hall that is not full; apart from that through a full one, which is then as quick as ever.
+#[inline(never)]
+fn travel_part(
+    h: Hall,
+    scale: &'static Scale,
+    source: u32,
+    packet: Packet,
+    hall_table: &[u8],
+    far: Fitted<impl FarPorts>,
+) -> Journey {
+    let counted = if far.filling.is_fitted(source) {
+        hall_table
+    } else {
+        &[]
+    };
+    travel(h, scale, source, packet, counted, &far)
+}
+
+/// The journey of a sound packet through a table of the right length, or an empty one where no port of the source counts as up. From a
+/// fitted server it comes to fitted ones only.
 fn travel(
     h: Hall,
     scale: &'static Scale,
@@ -237,6 +273,20 @@ impl FarPorts for HallCodes<'_> {
     }
 }
 
+/// The far ports of a hall that is not full. Where the far server is not fitted, both codes of the link count as 0; whether the near
+/// server is fitted is not asked here, as the table of one that is not is empty.
+struct Fitted<'a, F> {
+    filling: Filling,
+    far: &'a F,
+}
+
+impl<F: FarPorts> FarPorts for Fitted<'_, F> {
+    #[inline]
+    fn up(&self, place: usize, level: u32, far: u32) -> bool {
+        self.far.up(place, level, far) && self.filling.is_fitted(far)
+    }
+}
+
 /// No far code at all: the near port decides alone.
 struct NearAlone;
 
@@ -272,7 +322,7 @@ enum Pass {
 }
 
 impl<'a, F: FarPorts> Site<'a, F> {
-    /// The site of a server, with a table of its cell of the right length.
+    /// The site of a server, with a table of its cell of the right length or, where it is not fitted, an empty one.
     #[inline]
     fn new(
         h: Hall,
@@ -451,11 +501,12 @@ impl Work {
 mod tests {
     use super::*;
     use crate::naive;
+    use crate::plan::is_fitted;
     use crate::ports::step_table;
     use crate::random::Random;
 
-    const HALL: Hall = Hall { n: 4, k: 1, b: 0 };
-    const WIDE: Hall = Hall { n: 4, k: 1, b: 1 };
+    const HALL: Hall = Hall::full(4, 1, 0);
+    const WIDE: Hall = Hall::full(4, 1, 1);
 
     fn to(dst: u32, retry: u8, ttl: u8) -> Packet {
         Packet {
@@ -649,7 +700,7 @@ mod tests {
 
     #[test]
     fn an_arrived_packet_looks_for_a_proxy_one_level_higher() {
-        let h = Hall { n: 2, k: 2, b: 0 };
+        let h = Hall::full(2, 2, 0);
         let mut table = [1; 10];
         table[4] = 2;
         let plain = step(h, 0, to(4, 5, 9), &table);
@@ -660,7 +711,7 @@ mod tests {
 
     #[test]
     fn refusals_come_in_order_and_with_zeros() {
-        let bad = Hall { n: 4, k: 1, b: 2 };
+        let bad = Hall::full(4, 1, 2);
         let all_wrong = over(99, to(99, 16, 0));
         let refused = |refusal| Step {
             refusal,
@@ -766,7 +817,7 @@ mod tests {
         let mut endings = [0; 6];
         for (n, b) in [(3, 0), (3, 1), (5, 0), (8, 0), (4, 1), (8, 1)] {
             let turns = if b == 1 && n == 8 { 40 } else { 400 };
-            compare_steps(&mut random, Hall { n, k: 3, b }, turns, &mut endings);
+            compare_steps(&mut random, Hall::full(n, 3, b), turns, &mut endings);
         }
         assert!(endings.iter().all(|&times| times > 5), "{endings:?}");
     }
@@ -827,7 +878,7 @@ mod tests {
     #[test]
     fn retry_5_allows_4_reroutes_and_no_more() {
         let mut random = Random::new(5);
-        let h = Hall { n: 2, k: 3, b: 0 };
+        let h = Hall::full(2, 3, 0);
         let count = naive::servers(h);
         let mut spent = 0;
         for _ in 0..3000 {
@@ -861,7 +912,7 @@ mod tests {
     #[test]
     fn no_journey_crosses_more_links_than_its_ttl() {
         let mut random = Random::new(255);
-        let h = Hall { n: 2, k: 3, b: 1 };
+        let h = Hall::full(2, 3, 1);
         let count = naive::servers(h);
         let mut spent = 0;
         for _ in 0..3000 {
@@ -913,7 +964,7 @@ mod tests {
 
     #[test]
     fn far_codes_of_two_levels_stand_server_by_server() {
-        let h = Hall { n: 2, k: 2, b: 0 };
+        let h = Hall::full(2, 2, 0);
         let level_1_of_server_1 = 6 + 2;
         let mut table = [1; 10];
         table[level_1_of_server_1] = 3;
@@ -926,7 +977,7 @@ mod tests {
 
     #[test]
     fn a_hall_of_top_level_b_has_no_far_codes() {
-        let flat = Hall { n: 4, k: 0, b: 0 };
+        let flat = Hall::full(4, 0, 0);
         assert_eq!(step(flat, 0, to(3, 5, 9), &[1; 4]).next, 3);
         assert_eq!(step(WIDE, 0, to(19, 5, 9), &codes(2)).next, 2);
         for (h, right) in [(flat, 4), (WIDE, 40)] {
@@ -1056,5 +1107,123 @@ mod tests {
             met[0] > 1_000 && met[2..].iter().all(|&times| times > 20),
             "{met:?}"
         );
+    }
+
+    /// A random small hall that is not full as often as not, with a table of which one code in so many is not up.
+    fn any_part(random: &mut Random, one_fault_in: u32) -> (Hall, Vec<u8>) {
+        let halls = naive::part_halls(random);
+        let h = halls[random.below(halls.len() as u32) as usize];
+        let codes = (naive::servers(h) * (h.k + 1)) as usize;
+        (h, naive::table(random, codes, one_fault_in))
+    }
+
+    /// A server of a hall, mostly a fitted one where there is any.
+    fn any_fitted(random: &mut Random, h: Hall) -> u32 {
+        let uid = random.below(naive::servers(h));
+        let fitted = |uid: &u32| is_fitted(h, *uid);
+        if random.once_in(4) {
+            return uid;
+        }
+        (0..naive::servers(h))
+            .map(|ahead| (uid + ahead * 31) % naive::servers(h))
+            .find(fitted)
+            .unwrap_or(uid)
+    }
+
+    #[test]
+    fn a_step_in_a_hall_that_is_not_full_is_that_of_the_codes_that_count() {
+        let mut random = Random::new(36);
+        let mut endings = [0; 6];
+        let mut apart = 0;
+        for turn in 0..1_500 {
+            let (h, table) = any_part(&mut random, [0, 20, 5][turn % 3]);
+            let whole = Hall::full(h.n, h.k, h.b);
+            let uid = any_fitted(&mut random, h);
+            let mut packet = any_packet(&mut random, naive::servers(h));
+            packet.dst = any_fitted(&mut random, h);
+            let lent = naive::step_table(h, &table, uid);
+            let answer = step(h, uid, packet, &lent);
+            let counted = naive::counted_step(h, &lent, uid);
+            assert_eq!(answer, naive::step(whole, uid, packet, &counted), "{h:?}");
+            assert_eq!(answer, step(h, uid, packet, &own_table(h, &table, uid)));
+            endings[answer.ending as usize] += 1;
+            apart += u32::from(answer != step(whole, uid, packet, &lent));
+        }
+        assert!(endings.iter().all(|&times| times > 5), "{endings:?}");
+        assert!(apart > 100, "{apart}");
+    }
+
+    #[test]
+    fn a_journey_in_a_hall_that_is_not_full_is_that_of_the_codes_that_count() {
+        let mut random = Random::new(37);
+        let mut endings = [0; 6];
+        for turn in 0..300 {
+            let (h, table) = any_part(&mut random, [0, 20, 5][turn % 3]);
+            let whole = Hall::full(h.n, h.k, h.b);
+            let counted = naive::counted(h, &table);
+            for _ in 0..4 {
+                let source = any_fitted(&mut random, h);
+                let mut packet = any_packet(&mut random, naive::servers(h));
+                packet.dst = any_fitted(&mut random, h);
+                let answer = journey(h, source, packet, &table);
+                assert_eq!(answer, naive::journey(whole, source, packet, &counted));
+                endings[answer.ending as usize] += 1;
+                let near = journey_near_alone(h, source, packet, &table);
+                if turn % 3 == 0 {
+                    assert_eq!(near, answer);
+                }
+                let passed = &answer.uids[1..=answer.links as usize];
+                assert!(passed.iter().all(|&uid| is_fitted(h, uid)));
+            }
+        }
+        assert!(endings[1..].iter().all(|&times| times > 20), "{endings:?}");
+    }
+
+    #[test]
+    fn a_server_that_is_not_fitted_delivers_to_itself_and_sends_nothing_on() {
+        let h = Hall {
+            count: 3,
+            ..Hall::full(2, 2, 1)
+        };
+        let table = [1; 126];
+        let ended = |source, packet| {
+            let answer = journey(h, source, packet, &table);
+            assert_eq!((answer.links, answer.uids[0]), (0, source));
+            let lent = naive::step_table(h, &table, source);
+            assert_eq!(step(h, source, packet, &lent).ending, answer.ending);
+            (answer.ending, answer.reroutes)
+        };
+        assert_eq!(ended(20, to(20, 0, 0)), (DELIVERED, 0));
+        assert_eq!(ended(20, to(19, 5, 0)), (DROP_TTL, 0));
+        assert_eq!(ended(20, to(19, 5, 9)), (DROP_NO_ROUTE, 0));
+        assert_eq!(ended(20, to(5, 1, 9)), (DROP_RETRY, 0));
+        assert_eq!(ended(20, to(5, 2, 9)), (DROP_NO_PROXY, 0));
+        assert_eq!(ended(20, over(19, to(5, 3, 9))), (DROP_NO_PROXY, 1));
+        assert_eq!(ended(20, over(19, to(5, 2, 9))), (DROP_RETRY, 1));
+    }
+
+    #[test]
+    fn a_full_hall_and_one_of_which_a_dcell_1_is_missing_go_apart_at_that_one() {
+        let whole = Hall::full(2, 2, 0);
+        let part = Hall { count: 6, ..whole };
+        let table = [1; 126];
+        for (x, y) in (0..36).flat_map(|x| (0..42).map(move |y| (x, y))) {
+            let packet = to(y, 5, 64);
+            let answer = journey(part, x, packet, &table);
+            if y >= 36 {
+                assert!([DROP_RETRY, DROP_NO_PROXY].contains(&answer.ending));
+            } else {
+                assert_eq!(answer, journey(whole, x, packet, &table));
+            }
+        }
+    }
+
+    #[test]
+    fn a_count_outside_its_range_is_refused_by_steps_and_journeys_before_all_else() {
+        for (h, count) in [(HALL, 0), (HALL, 2), (Hall::full(2, 2, 0), 8)] {
+            let h = Hall { count, ..h };
+            assert_eq!(step(h, 99, to(99, 99, 0), &[]).refusal, 1);
+            assert_eq!(journey(h, 99, to(99, 99, 0), &[]).refusal, 1);
+        }
     }
 }

@@ -1,4 +1,4 @@
-//! The hall and its numbers: sizes, uids, tuples, cells, neighbours and links.
+//! The hall and its numbers: sizes, uids, tuples, cells, neighbours and links, and how many DCell(1)s it has.
 
 use crate::refusal;
 
@@ -18,12 +18,24 @@ const SCALE_COUNT: usize = (MOST_N - LEAST_N + 1) as usize;
 /// The binary places behind the point of a reciprocal; see `Scale::cells_below`.
 const INVERSE_PLACES: u32 = 40;
 
-/// n servers on a mini-switch, top level k, local level b.
+/// The lowest top level of a hall that is bought one DCell(1) at a time; one below it is always full.
+pub const LEAST_FILLED_K: u32 = 2;
+
+/// n servers on a mini-switch, top level k, local level b, and the number of its DCell(1)s that are fitted.
 #[derive(Debug, Clone, Copy, PartialEq, Eq)]
 pub struct Hall {
     pub n: u32,
     pub k: u32,
     pub b: u32,
+    pub count: u32,
+}
+
+impl Hall {
+    /// The hall of these numbers of which everything is fitted.
+    pub const fn full(n: u32, k: u32, b: u32) -> Hall {
+        let count = racks_of(n, k);
+        Hall { n, k, b, count }
+    }
 }
 
 /// The sizes t(0) to t(k), with zeros above k.
@@ -70,23 +82,26 @@ pub struct Link {
     pub to: u32,
 }
 
-/// The sizes of all levels for one n, with reciprocals to divide by them.
+/// The sizes of all levels for one n, with reciprocals to divide by them, and the DCell(1)s that a hall of each top level can have.
 #[derive(Debug)]
 pub(crate) struct Scale {
     pub(crate) t: [u32; LEVELS],
     inverse: [u64; LEVELS],
+    racks: [u32; LEVELS],
 }
 
 /// One scale for each n from 2 to 8.
 static SCALES: [Scale; SCALE_COUNT] = all_scales();
 
-/// The scale of a sound hall; none where n, k or b is outside its range.
+/// The scale of a sound hall; none where n, k, b or the count is outside its range.
 #[inline]
 pub(crate) fn scale(h: Hall) -> Option<&'static Scale> {
-    if !is_valid(h) {
+    if !shape_fits(h) {
         return None;
     }
-    SCALES.get((h.n - LEAST_N) as usize)
+    let scale = SCALES.get((h.n - LEAST_N) as usize)?;
+    let below = h.k >= LEAST_FILLED_K && h.count < scale.racks(h.k);
+    (scale.is_full(h) || below).then_some(scale)
 }
 
 /// The uid inside sub-cell p of the end of its link to sub-cell q.
@@ -113,6 +128,18 @@ impl Scale {
     #[inline]
     pub(crate) fn size(&self, level: u32) -> u32 {
         self.t[level as usize % LEVELS]
+    }
+
+    /// The DCell(1)s that a hall of top level k can have.
+    #[inline]
+    pub(crate) fn racks(&self, k: u32) -> u32 {
+        self.racks[k as usize % LEVELS]
+    }
+
+    /// Whether everything of a hall is fitted.
+    #[inline]
+    pub(crate) fn is_full(&self, h: Hall) -> bool {
+        h.count == self.racks(h.k)
     }
 
     /// The bytes of the port codes of one DCell(level) in a hall of top level k.
@@ -167,8 +194,16 @@ pub fn b_fits(k: u32, b: u32) -> bool {
 
 /// Whether n, k and b are all in their ranges.
 #[inline]
-fn is_valid(h: Hall) -> bool {
+fn shape_fits(h: Hall) -> bool {
     n_fits(h.n) && k_fits(h.n, h.k) && b_fits(h.k, h.b)
+}
+
+/// The DCell(1)s that a hall can have, t(k) / t(1), and 1 with k below 2; 0 where n or k is outside its range.
+pub const fn racks_of(n: u32, k: u32) -> u32 {
+    if n < LEAST_N || n > MOST_N || k > MOST_K {
+        return 0;
+    }
+    scale_of(n).racks[k as usize]
 }
 
 /// The servers of a hall; 0 where it is not valid.
@@ -320,6 +355,7 @@ const fn all_scales() -> [Scale; SCALE_COUNT] {
         Scale {
             t: [0; LEVELS],
             inverse: [0; LEVELS],
+            racks: [0; LEVELS],
         }
     }; SCALE_COUNT];
     let mut i = 0;
@@ -334,13 +370,17 @@ const fn all_scales() -> [Scale; SCALE_COUNT] {
 const fn scale_of(n: u32) -> Scale {
     let mut t = [n; LEVELS];
     let mut inverse = [0; LEVELS];
+    let mut racks = [1; LEVELS];
     let mut level = 1;
     while level < LEVELS {
         t[level] = (t[level - 1] + 1) * t[level - 1];
         inverse[level - 1] = (1 << INVERSE_PLACES) / t[level - 1] as u64 + 1;
+        if level >= LEAST_FILLED_K as usize {
+            racks[level] = (t[level - 1] + 1) * racks[level - 1];
+        }
         level += 1;
     }
-    Scale { t, inverse }
+    Scale { t, inverse, racks }
 }
 
 #[cfg(test)]
@@ -354,23 +394,19 @@ mod tests {
         for k in 0..=3 {
             let mut cut = [0; 4];
             cut[..=k].copy_from_slice(&t[..=k]);
-            let answer = sizes(Hall {
-                n: 4,
-                k: k as u32,
-                b: 0,
-            });
+            let answer = sizes(Hall::full(4, k as u32, 0));
             assert_eq!(answer, Sizes { refusal: 0, t: cut });
         }
     }
 
     #[test]
     fn the_largest_hall_has_27630792_servers() {
-        assert_eq!(sizes(Hall { n: 8, k: 3, b: 1 }).t[3], 27_630_792);
+        assert_eq!(sizes(Hall::full(8, 3, 1)).t[3], 27_630_792);
     }
 
     #[test]
     fn tuples_0_2_1_and_6_0_1_are_servers_5_and_37() {
-        let h = Hall { n: 2, k: 2, b: 0 };
+        let h = Hall::full(2, 2, 0);
         for (tuple, uid) in [([1, 2, 0, 0], 5), ([1, 0, 6, 0], 37)] {
             assert_eq!(uid_of(h, tuple), UidOf { refusal: 0, uid });
             assert_eq!(tuple_of(h, uid), TupleOf { refusal: 0, tuple });
@@ -379,7 +415,7 @@ mod tests {
 
     #[test]
     fn server_19_is_4_3_and_server_20_gets_2() {
-        let h = Hall { n: 4, k: 1, b: 0 };
+        let h = Hall::full(4, 1, 0);
         assert_eq!(tuple_of(h, 19).tuple, [3, 4, 0, 0]);
         assert_eq!(
             tuple_of(h, 20),
@@ -392,7 +428,7 @@ mod tests {
 
     #[test]
     fn cells_0_and_4_meet_at_3_and_16_and_turned_at_16_and_3() {
-        let h = Hall { n: 4, k: 1, b: 0 };
+        let h = Hall::full(4, 1, 0);
         for uid in 0..20 {
             let link = |p, q| link(h, uid, 1, p, q);
             let answer = |from, to| Link {
@@ -406,9 +442,14 @@ mod tests {
     }
 
     #[test]
-    fn n_k_and_b_are_checked_by_every_call() {
-        let sound = Hall { n: 4, k: 2, b: 1 };
+    fn n_k_b_and_the_count_are_checked_by_every_call() {
+        let sound = Hall::full(4, 2, 1);
         let bad = [
+            Hall { count: 22, ..sound },
+            Hall {
+                count: u32::MAX,
+                ..sound
+            },
             Hall { n: 1, ..sound },
             Hall { n: 9, ..sound },
             Hall { n: 0, ..sound },
@@ -443,7 +484,7 @@ mod tests {
 
     #[test]
     fn a_bad_uid_comes_before_a_bad_level() {
-        let h = Hall { n: 4, k: 1, b: 0 };
+        let h = Hall::full(4, 1, 0);
         assert_eq!(cell(h, 20, 9).refusal, 2);
         assert_eq!(neighbour(h, 20, 0).refusal, 2);
         assert_eq!(link(h, 20, 0, 1, 1).refusal, 2);
@@ -451,7 +492,7 @@ mod tests {
 
     #[test]
     fn levels_sub_cells_and_tuple_places_outside_their_range_get_3() {
-        let h = Hall { n: 4, k: 1, b: 0 };
+        let h = Hall::full(4, 1, 0);
         assert_eq!(cell(h, 0, 0).refusal, 0);
         assert_eq!(cell(h, 0, 2).refusal, 3);
         assert_eq!(neighbour(h, 0, 0).refusal, 3);
@@ -494,7 +535,7 @@ mod tests {
 
     #[test]
     fn exactly_as_many_tuples_are_sound_as_there_are_servers() {
-        let h = Hall { n: 2, k: 2, b: 0 };
+        let h = Hall::full(2, 2, 0);
         let mut sound = 0;
         for code in 0..10_000 {
             let tuple = [code % 10, code / 10 % 10, code / 100 % 10, code / 1000];
@@ -535,7 +576,7 @@ mod tests {
 
     #[test]
     fn each_server_has_exactly_one_linked_server_at_each_level_above_0() {
-        for h in [Hall { n: 2, k: 2, b: 0 }, Hall { n: 3, k: 2, b: 0 }] {
+        for h in [Hall::full(2, 2, 0), Hall::full(3, 2, 0)] {
             let count = naive::servers(h);
             for uid in 0..count {
                 for level in 1..=h.k {
@@ -549,7 +590,7 @@ mod tests {
 
     #[test]
     fn a_link_joins_its_two_sub_cells_whoever_asks() {
-        for h in [Hall { n: 2, k: 3, b: 0 }, Hall { n: 3, k: 2, b: 1 }] {
+        for h in [Hall::full(2, 3, 0), Hall::full(3, 2, 1)] {
             for uid in (0..naive::servers(h)).step_by(5) {
                 for level in 1..=h.k {
                     let g = naive::size(h.n, level - 1) + 1;
@@ -579,8 +620,8 @@ mod tests {
                 for b in numbers {
                     assert_eq!(b_fits(k, b), b <= 1 && b <= k);
                     let sound = (2..=8).contains(&n) && k <= 3 && b <= 1 && b <= k;
-                    let h = Hall { n, k, b };
-                    assert_eq!(is_valid(h), sound);
+                    let h = Hall::full(n, k, b);
+                    assert_eq!(shape_fits(h), sound);
                     assert_eq!(servers_of(h), if sound { naive::servers(h) } else { 0 });
                     for level in numbers {
                         let there = sound && level <= k;
@@ -588,6 +629,55 @@ mod tests {
                         assert_eq!(size_of(h, level), size);
                     }
                 }
+            }
+        }
+    }
+
+    #[test]
+    fn a_hall_has_as_many_dcell_1s_as_fit_into_it_and_one_where_it_is_lower() {
+        for n in 2..=8 {
+            assert_eq!([racks_of(n, 0), racks_of(n, 1)], [1, 1]);
+            for k in [2, 3] {
+                assert_eq!(racks_of(n, k), naive::size(n, k) / naive::size(n, 1));
+            }
+        }
+        assert_eq!(racks_of(8, 3), 383_761);
+        assert_eq!([racks_of(4, 2), racks_of(2, 3)], [21, 301]);
+        for (n, k) in [(1, 2), (9, 2), (0, 0), (u32::MAX, 3), (4, 4), (4, u32::MAX)] {
+            assert_eq!(racks_of(n, k), 0);
+        }
+    }
+
+    #[test]
+    fn any_count_up_to_all_is_sound_from_top_level_2_on_and_1_alone_below() {
+        for n in 2..=8 {
+            for k in 0..=3 {
+                let racks = racks_of(n, k);
+                let counts = [0, 1, 2, racks / 2, racks - 1, racks, racks + 1, u32::MAX];
+                for count in counts {
+                    let h = Hall { n, k, b: 0, count };
+                    let sound = count == racks || (k >= 2 && count < racks);
+                    assert_eq!(scale(h).is_some(), sound, "{h:?}");
+                    assert_eq!(sizes(h).refusal == 0, sound);
+                    assert_eq!(servers_of(h) > 0, sound);
+                    assert_eq!(size_of(h, 0) > 0, sound);
+                }
+            }
+        }
+    }
+
+    #[test]
+    fn the_count_moves_no_number_of_a_sound_hall() {
+        let whole = Hall::full(2, 3, 1);
+        for count in [0, 1, 7, 300] {
+            let h = Hall { count, ..whole };
+            assert_eq!(sizes(h), sizes(whole));
+            for uid in (0..1806).step_by(13) {
+                assert_eq!(tuple_of(h, uid), tuple_of(whole, uid));
+                assert_eq!(uid_of(h, tuple_of(h, uid).tuple).uid, uid);
+                assert_eq!(cell(h, uid, 2), cell(whole, uid, 2));
+                assert_eq!(neighbour(h, uid, 3), neighbour(whole, uid, 3));
+                assert_eq!(link(h, uid, 2, 0, 3), link(whole, uid, 2, 0, 3));
             }
         }
     }

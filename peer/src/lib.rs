@@ -7,6 +7,7 @@ pub mod forward;
 pub mod frame;
 pub mod hall;
 pub mod local;
+pub mod plan;
 pub mod ports;
 pub mod random;
 pub mod refusal;

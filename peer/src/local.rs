@@ -1,6 +1,7 @@
 //! Distances and next hops inside one DCell(b), over the links that are usable there.
 
 use crate::hall::{self, partner, Hall, Scale};
+use crate::plan::Filling;
 use crate::ports::UP;
 use crate::refusal;
 
@@ -46,12 +47,13 @@ pub fn distances(h: Hall, uid: u32, table_of_cell: &[u8]) -> Distances {
     if uid >= scale.size(h.k) {
         return refused(refusal::UID);
     }
-    let cell = LocalCell::new(h, scale, table_of_cell);
+    let first = scale.first(uid, h.b);
+    let cell = LocalCell::new(h, scale, counted(h, scale, first, table_of_cell));
     Distances {
         refusal: refusal::NONE,
         origin: uid,
         count: scale.size(h.b),
-        distance: cell.distances_from((uid - scale.first(uid, h.b)) as usize),
+        distance: cell.distances_from((uid - first) as usize),
     }
 }
 
@@ -76,7 +78,7 @@ pub fn next_hop(h: Hall, uid: u32, target: u32, table_of_cell: &[u8]) -> NextHop
     if scale.first(target, h.b) != first {
         return without(refusal::NONE);
     }
-    let cell = LocalCell::new(h, scale, table_of_cell);
+    let cell = LocalCell::new(h, scale, counted(h, scale, first, table_of_cell));
     match cell.next_hop((uid - first) as usize, (target - first) as usize) {
         Some(place) => NextHop {
             refusal: refusal::NONE,
@@ -87,7 +89,13 @@ pub fn next_hop(h: Hall, uid: u32, target: u32, table_of_cell: &[u8]) -> NextHop
     }
 }
 
-/// One DCell(b) with its lent table; its servers go by their place in it, from 0 on.
+/// The codes of the DCell(b) that begins at server `first` that count: all where it is fitted, and else none.
+#[inline]
+fn counted<'a>(h: Hall, scale: &'static Scale, first: u32, table: &'a [u8]) -> &'a [u8] {
+    Filling::of(h, scale).map_or(table, |filling| filling.counted(first, table))
+}
+
+/// One DCell(b) with its lent table; its servers go by their place in it, from 0 on. No port behind the table's end is up.
 #[derive(Debug, Clone, Copy)]
 pub(crate) struct LocalCell<'a> {
     scale: &'static Scale,
@@ -98,7 +106,7 @@ pub(crate) struct LocalCell<'a> {
 }
 
 impl<'a> LocalCell<'a> {
-    /// The cell whose table, of the right length, is lent.
+    /// The cell whose table is lent, of the right length or, where the cell is not fitted, empty.
     #[inline]
     pub(crate) fn new(h: Hall, scale: &'static Scale, table: &'a [u8]) -> LocalCell<'a> {
         LocalCell {
@@ -122,7 +130,8 @@ impl<'a> LocalCell<'a> {
         self.table.get(place * self.ports + level as usize) == Some(&UP)
     }
 
-    /// The distances of all places from one.
+    /// The distances of all places from one. It is never inlined, so that it is the same code for full halls and for others.
+    #[inline(never)]
     pub(crate) fn distances_from(&self, origin: usize) -> [u8; CELL_ROOM] {
         let mut search = Search::from(origin);
         let (mut head, mut tail) = (0, 1);
@@ -154,7 +163,8 @@ impl<'a> LocalCell<'a> {
             && self.up(target, 0)
     }
 
-    /// The next hop, found by a search from the target until it meets the place.
+    /// The next hop, found by a search from the target until it meets the place. It is never inlined, as `distances_from` is not.
+    #[inline(never)]
     fn searched_hop(&self, from: usize, target: usize) -> Option<usize> {
         let mut search = Search::from(target);
         let (mut head, mut tail) = (0, 1);
@@ -265,7 +275,7 @@ mod tests {
     use crate::naive;
     use crate::random::Random;
 
-    const CELL_HALL: Hall = Hall { n: 4, k: 1, b: 1 };
+    const CELL_HALL: Hall = Hall::full(4, 1, 1);
 
     fn sheet_codes() -> [u8; 40] {
         let mut table = [1; 40];
@@ -299,7 +309,7 @@ mod tests {
         };
         assert_eq!(next_hop(CELL_HALL, 3, 3, &[1; 40]), nothing);
         assert_eq!(next_hop(CELL_HALL, 3, 4, &[0; 40]), nothing);
-        let h = Hall { n: 4, k: 1, b: 0 };
+        let h = Hall::full(4, 1, 0);
         assert_eq!(next_hop(h, 3, 4, &[1; 8]), nothing);
     }
 
@@ -321,7 +331,7 @@ mod tests {
 
     #[test]
     fn a_crossing_needs_port_0_of_both_servers() {
-        let h = Hall { n: 4, k: 0, b: 0 };
+        let h = Hall::full(4, 0, 0);
         let near = |table: &[u8]| distances(h, 1, table).distance[..4].to_vec();
         assert_eq!(near(&[1, 1, 1, 1]), [1, 0, 1, 1]);
         assert_eq!(near(&[1, 1, 2, 7]), [1, 0, 255, 255]);
@@ -330,7 +340,7 @@ mod tests {
 
     #[test]
     fn the_origin_is_told_as_a_hall_uid_and_distances_by_place() {
-        let h = Hall { n: 2, k: 2, b: 1 };
+        let h = Hall::full(2, 2, 1);
         let answer = distances(h, 13, &[1; 18]);
         assert_eq!((answer.origin, answer.count), (13, 6));
         assert_eq!(answer.distance[1], 0);
@@ -345,7 +355,7 @@ mod tests {
             count: 0,
             distance: [0; CELL_ROOM],
         };
-        let bad = Hall { n: 4, k: 0, b: 1 };
+        let bad = Hall::full(4, 0, 1);
         assert_eq!(distances(bad, 99, &[1; 3]), refused(1));
         assert_eq!(distances(CELL_HALL, 99, &[1; 3]), refused(4));
         assert_eq!(distances(CELL_HALL, 20, &[1; 40]), refused(2));
@@ -354,6 +364,52 @@ mod tests {
         assert_eq!(hop(CELL_HALL, 99, 99, &[1; 3]), 4);
         assert_eq!(hop(CELL_HALL, 99, 0, &[1; 40]), 2);
         assert_eq!(hop(CELL_HALL, 0, 99, &[1; 40]), 2);
+    }
+
+    #[test]
+    fn in_a_cell_that_is_not_fitted_only_the_server_itself_is_at_a_distance() {
+        for (b, length) in [(0, 6), (1, 18)] {
+            let h = Hall {
+                count: 3,
+                ..Hall::full(2, 2, b)
+            };
+            let reached = |uid| {
+                let answer = distances(h, uid, &vec![1; length]);
+                assert_eq!(answer.refusal, 0);
+                let near = answer.distance.iter().filter(|&&away| away < NO_DISTANCE);
+                (answer.distance[..].contains(&0), near.count())
+            };
+            let cell = naive::size(2, b) as usize;
+            assert_eq!(reached(17), (true, cell));
+            assert_eq!(reached(18), (true, 1));
+            assert_eq!(reached(41), (true, 1));
+            let hop = |uid, target| next_hop(h, uid, target, &vec![1; length]).found;
+            assert_eq!([hop(16, 17), hop(18, 19), hop(41, 40)], [1, 0, 0]);
+        }
+    }
+
+    #[test]
+    fn distances_and_hops_of_halls_that_are_not_full_are_those_of_the_codes_that_count() {
+        let mut random = Random::new(73);
+        for _ in 0..4 {
+            for h in naive::part_halls(&mut random) {
+                let t = naive::size(h.n, h.b);
+                let table = naive::table(&mut random, (t * (h.k + 1)) as usize, 5);
+                let first = random.below(naive::servers(h) / t) * t;
+                let counted = naive::counted_cell(h, &table, first);
+                let uid = first + random.below(t);
+                let literal = naive::distances(h, first, &counted, uid, h.b);
+                let answer = distances(h, uid, &table);
+                for (place, &distance) in answer.distance.iter().enumerate() {
+                    let away = literal.get(place).copied().unwrap_or(naive::NEVER);
+                    assert_eq!(u32::from(distance), away.min(255));
+                }
+                let target = first + random.below(t);
+                let hop = next_hop(h, uid, target, &table);
+                let expected = naive::next_hop(h, first, &counted, uid, target);
+                assert_eq!((hop.found == 1).then_some(hop.uid), expected);
+            }
+        }
     }
 
     #[test]

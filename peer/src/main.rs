@@ -1,6 +1,6 @@
 //! Compares the proved calls with the separate implementation, measures the one against the other, works out the paper's tables,
-//! counts the routes over each link and from each port, traces a night sheet with the separate implementation alone, and draws the
-//! example sheet.
+//! counts the routes over each link and from each port, fills halls rack by rack, traces a night sheet with the separate implementation
+//! alone, and draws the example sheet.
 
 #![deny(unsafe_code)]
 
@@ -15,17 +15,21 @@ use std::process::ExitCode;
 use std::time::{SystemTime, UNIX_EPOCH};
 
 use compare::failures::{self, Side, Tables};
-use compare::{bench, load, ratios::Form, table1, tally::Effort};
+use compare::{bench, bench::Extent, filling, load, ratios::Form, table1, tally::Effort};
 use peer::report;
 use peer::sheet::SHEET_ROOM;
 
 /// How the program is called.
 const USAGE: &str = "\
 usage: peer compare [--seed S] [--long]   compare every call on random inputs
-       peer bench [--seed S] [--markdown] measure every call against the peer
+       peer bench [--seed S] [--markdown] [--halves]
+                                          measure every call against the peer, and steps and journeys in halls of which half is
+                                          fitted against those in full ones (--halves: these alone)
        peer table1 [--seed S]             work out the paper's Table 1 with the proved route
        peer load [--markdown]             count the routes over each link and from each port with the proved route
                                           (--markdown: print the proved figures of every hall instead)
+       peer filling [--markdown]          fill halls rack by rack with the proved calls
+                                          (--markdown: print how packets fare in halls that are not full instead)
        peer failures [--seed S] [--peer] [--strands]
                                           trace packets around failures with the proved journey (--peer: the peer's),
                                           beside the paper's Table 2, and around broken strands (--strands: these alone)
@@ -44,11 +48,15 @@ enum Work {
     Bench {
         seed: Option<u64>,
         form: Form,
+        extent: Extent,
     },
     Table1 {
         seed: Option<u64>,
     },
     Load {
+        form: Form,
+    },
+    Filling {
         form: Form,
     },
     Failures {
@@ -76,12 +84,13 @@ fn main() -> ExitCode {
 fn done(work: Work) -> bool {
     match work {
         Work::Compare { seed, effort } => compare::run(seed.unwrap_or_else(fresh_seed), effort),
-        Work::Bench { seed, form } => {
-            bench::run(seed.unwrap_or_else(fresh_seed), form);
+        Work::Bench { seed, form, extent } => {
+            bench::run(seed.unwrap_or_else(fresh_seed), form, extent);
             true
         }
         Work::Table1 { seed } => table1::run(seed.unwrap_or_else(fresh_seed)),
         Work::Load { form } => load::run(form),
+        Work::Filling { form } => filling::run(form),
         Work::Failures { seed, side, tables } => {
             failures::run(seed.unwrap_or_else(fresh_seed), side, tables)
         }
@@ -96,6 +105,7 @@ fn parse(words: &[String]) -> Option<Work> {
     let mut seed = None;
     let mut effort = Effort::Short;
     let mut form = Form::Lines;
+    let mut extent = Extent::All;
     let mut side = Side::Rattle;
     let mut tables = Tables::All;
     while let Some((option, behind)) = options.split_first() {
@@ -116,8 +126,12 @@ fn parse(words: &[String]) -> Option<Work> {
                 tables = Tables::Strands;
                 behind
             }
-            ("--markdown", _) if name == "bench" || name == "load" => {
+            ("--markdown", _) if ["bench", "load", "filling"].contains(&name.as_str()) => {
                 form = Form::Markdown;
+                behind
+            }
+            ("--halves", _) if name == "bench" => {
+                extent = Extent::Halves;
                 behind
             }
             _ => return None,
@@ -125,9 +139,10 @@ fn parse(words: &[String]) -> Option<Work> {
     }
     match name.as_str() {
         "compare" => Some(Work::Compare { seed, effort }),
-        "bench" => Some(Work::Bench { seed, form }),
+        "bench" => Some(Work::Bench { seed, form, extent }),
         "table1" => Some(Work::Table1 { seed }),
         "load" if seed.is_none() => Some(Work::Load { form }),
+        "filling" if seed.is_none() => Some(Work::Filling { form }),
         "failures" => Some(Work::Failures { seed, side, tables }),
         "trace" if words.len() == 1 => Some(Work::Trace),
         "example" if words.len() == 1 => Some(Work::Example),
@@ -178,15 +193,29 @@ mod tests {
             parsed("compare --seed 7 --long"),
             asked(Some(7), Effort::Long)
         );
-        let benched = |seed, form| Some(Work::Bench { seed, form });
-        assert_eq!(parsed("bench --seed 7"), benched(Some(7), Form::Lines));
-        assert_eq!(parsed("bench --markdown"), benched(None, Form::Markdown));
+        let benched = |seed, form, extent| Some(Work::Bench { seed, form, extent });
+        let [lines, markdown] = [Form::Lines, Form::Markdown];
+        assert_eq!(
+            parsed("bench --seed 7"),
+            benched(Some(7), lines, Extent::All)
+        );
+        assert_eq!(
+            parsed("bench --markdown"),
+            benched(None, markdown, Extent::All)
+        );
+        assert_eq!(
+            parsed("bench --halves --seed 7"),
+            benched(Some(7), lines, Extent::Halves)
+        );
         assert_eq!(parsed("table1"), Some(Work::Table1 { seed: None }));
         assert_eq!(parsed("load"), Some(Work::Load { form: Form::Lines }));
         let table = Work::Load {
             form: Form::Markdown,
         };
         assert_eq!(parsed("load --markdown"), Some(table));
+        assert_eq!(parsed("filling"), Some(Work::Filling { form: lines }));
+        let table = Work::Filling { form: markdown };
+        assert_eq!(parsed("filling --markdown"), Some(table));
         let failed = |seed, side, tables| Some(Work::Failures { seed, side, tables });
         assert_eq!(
             parsed("failures --seed 7"),
@@ -222,6 +251,9 @@ mod tests {
             "load --seed 1",
             "load --markdown --seed 1",
             "load --long",
+            "load --halves",
+            "filling --seed 1",
+            "filling --long",
             "failures --long",
             "failures --markdown",
             "bench --peer",

@@ -8,18 +8,130 @@ const UP: u8 = 1;
 /// The distance of a server that cannot be reached.
 pub const NEVER: u32 = u32::MAX;
 
-/// Every hall of few servers, with each b it may have.
+/// Every full hall of few servers, with each b it may have.
 pub fn small_halls() -> Vec<Hall> {
     let tops = [(2, 3), (3, 2), (4, 2), (5, 1), (6, 1), (7, 1), (8, 1)];
     let mut halls = Vec::new();
     for (n, top) in tops {
         for k in 0..=top {
             for b in 0..=k.min(1) {
-                halls.push(Hall { n, k, b });
+                halls.push(Hall::full(n, k, b));
             }
         }
     }
     halls
+}
+
+/// The small halls of top level 2 and above with a random number of DCell(1)s fitted, often one at which something turns.
+pub fn part_halls(random: &mut crate::random::Random) -> Vec<Hall> {
+    let tall = small_halls().into_iter().filter(|h| h.k >= 2);
+    let part = |h: Hall| {
+        let turn = size(h.n, 1) + 1;
+        let count = match random.below(6) {
+            0 => 0,
+            1 => 1 + random.below(2),
+            2 => (turn + random.below(3)).saturating_sub(1),
+            3 => (turn * turn + random.below(3)).saturating_sub(1),
+            4 => h.count - random.below(2),
+            _ => random.below(h.count + 1),
+        };
+        Hall {
+            count: count.min(h.count),
+            ..h
+        }
+    };
+    tall.map(part).collect()
+}
+
+/// The DCell(1)s of a hall in the order in which the paper's figure 6 adds them, as a(3) and a(2); so many of them.
+pub fn placed(n: u32, k: u32, additions: u32) -> Vec<(u32, u32)> {
+    let mut existing = Vec::new();
+    for _ in 0..additions {
+        let place = add_dcell(n, &existing, &[], k);
+        existing.push(place);
+    }
+    existing
+}
+
+/// The figure's procedure: the place that one more DCell(1) gets in the DCell of a level that a prefix names.
+fn add_dcell(n: u32, existing: &[(u32, u32)], prefix: &[u32], level: u32) -> (u32, u32) {
+    if level == 2 {
+        let row = prefix.first().copied().unwrap_or(0);
+        let beside = existing.iter().filter(|&&(a3, _)| a3 == row);
+        let largest = beside.map(|&(_, a2)| a2).max();
+        return (row, largest.map_or(0, |largest| largest + 1));
+    }
+    let id = get_index(n, existing);
+    add_dcell(n, existing, &[id], level - 1)
+}
+
+/// The figure's sub-routine: the DCell(2) of a DCell(3) to add to.
+fn get_index(n: u32, existing: &[(u32, u32)]) -> u32 {
+    let t1 = size(n, 1);
+    let mut held = std::collections::BTreeMap::new();
+    for &(a3, _) in existing {
+        *held.entry(a3).or_insert(0) += 1;
+    }
+    let m = held.len() as u32;
+    if m < t1 + 1 {
+        return m;
+    }
+    let not_full = held.into_iter().find(|&(_, cells)| cells < t1 + 1);
+    not_full.map_or(m, |(smallest, _)| smallest)
+}
+
+/// Whether each server of a hall is fitted, in uid order.
+pub fn fitted(h: Hall) -> Vec<bool> {
+    if h.k < 2 {
+        return vec![true; servers(h) as usize];
+    }
+    let mut fitted = vec![false; servers(h) as usize];
+    for (a3, a2) in placed(h.n, h.k, h.count) {
+        let first = a3 * size(h.n, 2) + a2 * size(h.n, 1);
+        for uid in first..first + size(h.n, 1) {
+            fitted[uid as usize] = true;
+        }
+    }
+    fitted
+}
+
+/// The hall table as it counts: 0 at every port whose own server or far server is not fitted.
+pub fn counted(h: Hall, hall_table: &[u8]) -> Vec<u8> {
+    let fitted = fitted(h);
+    let mut table = hall_table.to_vec();
+    for uid in 0..servers(h) {
+        for level in 0..=h.k {
+            let far = if level == 0 {
+                uid
+            } else {
+                neighbour(h, uid, level)
+            };
+            if !fitted[uid as usize] || !fitted[far as usize] {
+                table[(uid * (h.k + 1) + level) as usize] = 0;
+            }
+        }
+    }
+    table
+}
+
+/// A table lent to a step of a server as it counts: 0 at every near and far port whose own server or far server is not fitted.
+pub fn counted_step(h: Hall, step_table: &[u8], uid: u32) -> Vec<u8> {
+    let whole = vec![UP; (servers(h) * (h.k + 1)) as usize];
+    let counts = counted(h, &whole);
+    let places = step_places(h, uid).into_iter();
+    let pairs = places.zip(step_table);
+    pairs
+        .map(|(place, &code)| if counts[place] == UP { code } else { 0 })
+        .collect()
+}
+
+/// The table of the DCell(b) of a server as it counts.
+pub fn counted_cell(h: Hall, cell_table: &[u8], uid: u32) -> Vec<u8> {
+    let mut lent = cell_table.to_vec();
+    lent.resize(step_length(h), UP);
+    let mut counts = counted_step(h, &lent, uid);
+    counts.truncate(cell_table.len());
+    counts
 }
 
 /// t(level).

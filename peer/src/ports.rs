@@ -1,8 +1,11 @@
 //! The port codes of a hall: the check of a hall table, the part of it that one server's DCell(b) has, and the table lent to a step.
 
-use crate::hall::{self, partner, Hall, Scale};
+use crate::hall::{self, partner, Hall, Scale, LEAST_FILLED_K};
+use crate::plan::Filling;
 use crate::refusal;
 
+/// The code of a port that is not fitted.
+pub const NOT_FITTED: u8 = 0;
 /// The one code that counts as up.
 pub const UP: u8 = 1;
 /// The highest known code: held for tests.
@@ -43,7 +46,7 @@ pub fn part(h: Hall, table: &[u8], uid: u32) -> (u32, &[u8]) {
 }
 
 /// Writes the table lent to a step of a server to the start of the room: the part of the hall table for its DCell(b), and behind it the
-/// code of the far port for each server there and each level above b.
+/// code of the far port for each server there and each level above b, each code as it counts.
 pub fn step_table(h: Hall, table: &[u8], uid: u32, room: &mut [u8]) -> u32 {
     let (scale, first) = match own_cell(h, table, uid) {
         Ok(found) => found,
@@ -56,7 +59,31 @@ pub fn step_table(h: Hall, table: &[u8], uid: u32, room: &mut [u8]) -> u32 {
     let (near, far) = written.split_at_mut(part.len());
     near.copy_from_slice(part);
     put_far_codes(scale, h, table, first, far);
+    if let Some(filling) = Filling::of(h, scale) {
+        shut(&filling, scale, h, first, near, far);
+    }
     refusal::NONE
+}
+
+/// Writes 0 over the codes of the ports whose own server or far server is not fitted, for the DCell(b) that begins at server `first`.
+/// Such a DCell is fitted whole or not at all, and so are the two ends of a link below level 2.
+fn shut(filling: &Filling, scale: &Scale, h: Hall, first: u32, near: &mut [u8], far: &mut [u8]) {
+    if !filling.is_fitted(first) {
+        near.fill(NOT_FITTED);
+        far.fill(NOT_FITTED);
+        return;
+    }
+    let nears = near.chunks_exact_mut(h.k as usize + 1);
+    let fars = far.chunks_exact_mut((h.k - h.b) as usize);
+    for (uid, (near, far)) in (first..).zip(nears.zip(fars)) {
+        for level in LEAST_FILLED_K..=h.k {
+            if filling.is_fitted(scale.neighbour(uid, level)) {
+                continue;
+            }
+            near[level as usize] = NOT_FITTED;
+            far[(level - h.b - 1) as usize] = NOT_FITTED;
+        }
+    }
 }
 
 /// The two parts of a table lent to a step: the codes of its DCell(b), then those of the far ports; none where its length is wrong.
@@ -166,7 +193,7 @@ mod tests {
     use crate::naive;
     use crate::random::Random;
 
-    const HALL: Hall = Hall { n: 4, k: 1, b: 0 };
+    const HALL: Hall = Hall::full(4, 1, 0);
 
     #[test]
     fn a_table_of_known_codes_is_sound() {
@@ -217,7 +244,7 @@ mod tests {
         assert_eq!(check(HALL, &[9; 39]), answer(4));
         assert_eq!(check(HALL, &[9; 41]), answer(4));
         assert_eq!(check(HALL, &[]), answer(4));
-        assert_eq!(check(Hall { n: 4, k: 1, b: 2 }, &[9; 40]), answer(1));
+        assert_eq!(check(Hall::full(4, 1, 2), &[9; 40]), answer(1));
     }
 
     #[test]
@@ -239,7 +266,7 @@ mod tests {
     #[test]
     fn a_refused_part_is_empty_and_refusals_come_in_order() {
         let none: &[u8] = &[];
-        assert_eq!(part(Hall { n: 9, k: 1, b: 0 }, &[1; 4], 99), (1, none));
+        assert_eq!(part(Hall::full(9, 1, 0), &[1; 4], 99), (1, none));
         assert_eq!(part(HALL, &[1; 39], 99), (4, none));
         assert_eq!(part(HALL, &[1; 41], 99), (4, none));
         assert_eq!(part(HALL, &[1; 40], 20), (2, none));
@@ -263,7 +290,7 @@ mod tests {
 
     #[test]
     fn servers_0_and_1_are_joined_to_2_and_4_at_level_1() {
-        let h = Hall { n: 2, k: 1, b: 0 };
+        let h = Hall::full(2, 1, 0);
         for uid in [0, 1] {
             assert_eq!(written(h, uid, 6), [0, 1, 2, 3, 5, 9]);
         }
@@ -271,7 +298,7 @@ mod tests {
 
     #[test]
     fn servers_6_to_11_are_joined_to_0_13_19_25_31_and_37_at_level_2() {
-        let h = Hall { n: 2, k: 2, b: 1 };
+        let h = Hall::full(2, 2, 1);
         let mut own: Vec<u8> = (18..36).collect();
         own.extend([2, 41, 59, 77, 95, 113]);
         for uid in 6..12 {
@@ -281,7 +308,7 @@ mod tests {
 
     #[test]
     fn servers_2_and_3_are_joined_to_0_and_5_at_level_1_and_to_18_and_24_at_level_2() {
-        let h = Hall { n: 2, k: 2, b: 0 };
+        let h = Hall::full(2, 2, 0);
         for uid in [2, 3] {
             assert_eq!(written(h, uid, 10), [6, 7, 8, 9, 10, 11, 1, 56, 16, 74]);
         }
@@ -289,9 +316,9 @@ mod tests {
 
     #[test]
     fn a_hall_of_top_level_b_has_no_far_code() {
-        assert_eq!(written(Hall { n: 2, k: 0, b: 0 }, 1, 2), [0, 1]);
+        assert_eq!(written(Hall::full(2, 0, 0), 1, 2), [0, 1]);
         let whole: Vec<u8> = (0..40).collect();
-        assert_eq!(written(Hall { n: 4, k: 1, b: 1 }, 19, 40), whole);
+        assert_eq!(written(Hall::full(4, 1, 1), 19, 40), whole);
     }
 
     #[test]
@@ -312,6 +339,63 @@ mod tests {
     }
 
     #[test]
+    fn each_code_of_a_hall_that_is_not_full_is_written_as_it_counts() {
+        let mut random = Random::new(8);
+        for _ in 0..4 {
+            for h in naive::part_halls(&mut random) {
+                let codes = naive::servers(h) * (h.k + 1);
+                let table: Vec<u8> = (0..codes).map(|_| random.byte()).collect();
+                let counted = naive::counted(h, &table);
+                for _ in 0..20 {
+                    let uid = random.below(naive::servers(h));
+                    let literal = naive::step_table(h, &counted, uid);
+                    let mut room = vec![0xEE; literal.len()];
+                    assert_eq!(step_table(h, &table, uid, &mut room), 0);
+                    assert_eq!(room, literal, "{h:?} {uid}");
+                }
+            }
+        }
+    }
+
+    #[test]
+    fn with_three_of_seven_dcell_1s_the_ports_to_the_other_four_are_written_as_0() {
+        let h = Hall {
+            count: 3,
+            ..Hall::full(2, 2, 1)
+        };
+        let lent = |uid| {
+            let mut room = [0xEE; 24];
+            assert_eq!(step_table(h, &[1; 126], uid, &mut room), 0);
+            room
+        };
+        // Servers 6 to 11 are joined to 0, 13, 19, 25, 31 and 37 at level 2, of which 0 and 13 are fitted.
+        let mut own = [1; 24];
+        for place in 2..6 {
+            own[place * 3 + 2] = 0;
+            own[18 + place] = 0;
+        }
+        assert_eq!(lent(6), own);
+        assert_eq!(lent(11), own);
+        assert_eq!(lent(18), [0; 24]);
+        assert_eq!(lent(41), [0; 24]);
+    }
+
+    #[test]
+    fn the_check_and_the_part_know_nothing_of_what_is_fitted() {
+        let h = Hall {
+            count: 1,
+            ..Hall::full(2, 2, 1)
+        };
+        let mut table: Vec<u8> = (0..126).map(|place| place % 5).collect();
+        assert_eq!(part(h, &table, 41), (0, &table[108..]));
+        assert_eq!(check(h, &table).refusal, 0);
+        table[125] = 5;
+        let place = 125;
+        assert_eq!(check(h, &table), TableCheck { refusal: 5, place });
+        assert!(is_up(h, &table, 40, 1));
+    }
+
+    #[test]
     fn a_refused_step_table_leaves_the_room_as_lent_and_refusals_come_in_order() {
         let refused = |h, codes, uid, length| {
             let mut room = vec![0xEE; length];
@@ -322,8 +406,11 @@ mod tests {
         for length in [0, 11, 12, 13] {
             for h in [(9, 1, 0), (4, 4, 0), (4, 1, 2), (1, 1, 0)] {
                 let (n, k, b) = h;
-                assert_eq!(refused(Hall { n, k, b }, 39, 99, length), 1);
-                assert_eq!(refused(Hall { n, k, b }, 40, 0, length), 1);
+                assert_eq!(refused(Hall::full(n, k, b), 39, 99, length), 1);
+                assert_eq!(refused(Hall::full(n, k, b), 40, 0, length), 1);
+            }
+            for count in [0, 2, u32::MAX] {
+                assert_eq!(refused(Hall { count, ..HALL }, 40, 0, length), 1);
             }
             for codes in [0, 8, 39, 41] {
                 assert_eq!(refused(HALL, codes, 99, length), 4);
@@ -356,7 +443,7 @@ mod tests {
     fn a_port_above_k_is_never_up() {
         for k in 0..4 {
             for port in k + 1..20 {
-                assert!(!is_up(Hall { n: 4, k, b: 0 }, &[1; 80], 0, port));
+                assert!(!is_up(Hall::full(4, k, 0), &[1; 80], 0, port));
             }
         }
         assert!(!is_up(HALL, &[1; 40], 0, u32::MAX));
@@ -364,7 +451,7 @@ mod tests {
 
     #[test]
     fn a_port_of_any_hall_and_server_is_looked_up_without_a_wrap() {
-        let h = |k| Hall { n: 9, k, b: 9 };
+        let h = |k| Hall::full(9, k, 9);
         assert!(is_up(h(u32::MAX), &[0, 1], 0, 1));
         assert!(!is_up(h(u32::MAX), &[1; 40], 1, 0));
         assert!(!is_up(h(1), &[1; 40], 1 << 31, 0));

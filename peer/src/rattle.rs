@@ -1,5 +1,5 @@
-//! The proved calls, as the static libraries of the crates `calls_hall`, `calls_packets`, `driver`, `calls_parts`, `calls_sheets` and
-//! `calls_lines` export them, behind safe functions.
+//! The proved calls, as the static libraries of the crates `calls_hall`, `calls_plan`, `calls_packets`, `driver`, `calls_parts`,
+//! `calls_sheets` and `calls_lines` export them, behind safe functions.
 //!
 //! Nothing checks these declarations against the Rattle source: whoever changes a signature there changes it here. A slice is two
 //! arguments to Rattle, a pointer and a length, and is declared as two. A Rust slice would be one: where a single register is left
@@ -12,12 +12,20 @@ use peer::hall::{Hall, LEVELS};
 mod foreign {
     #[link(name = "calls_hall", kind = "static")]
     unsafe extern "C" {
-        pub fn calls_sizes(n: u32, k: u32, b: u32, room: *mut u32, length: usize) -> u32;
-        pub fn calls_size_of(n: u32, k: u32, b: u32, level: u32) -> u32;
+        pub fn calls_sizes(
+            n: u32,
+            k: u32,
+            b: u32,
+            count: u32,
+            room: *mut u32,
+            length: usize,
+        ) -> u32;
+        pub fn calls_size_of(n: u32, k: u32, b: u32, count: u32, level: u32) -> u32;
         pub fn calls_uid(
             n: u32,
             k: u32,
             b: u32,
+            count: u32,
             a0: u32,
             a1: u32,
             a2: u32,
@@ -25,11 +33,20 @@ mod foreign {
             room: *mut u32,
             length: usize,
         ) -> u32;
-        pub fn calls_tuple(n: u32, k: u32, b: u32, uid: u32, room: *mut u32, length: usize) -> u32;
+        pub fn calls_tuple(
+            n: u32,
+            k: u32,
+            b: u32,
+            count: u32,
+            uid: u32,
+            room: *mut u32,
+            length: usize,
+        ) -> u32;
         pub fn calls_cell(
             n: u32,
             k: u32,
             b: u32,
+            count: u32,
             uid: u32,
             level: u32,
             room: *mut u32,
@@ -39,6 +56,7 @@ mod foreign {
             n: u32,
             k: u32,
             b: u32,
+            count: u32,
             uid: u32,
             level: u32,
             room: *mut u32,
@@ -48,6 +66,7 @@ mod foreign {
             n: u32,
             k: u32,
             b: u32,
+            count: u32,
             uid: u32,
             level: u32,
             p: u32,
@@ -55,12 +74,27 @@ mod foreign {
             room: *mut u32,
             length: usize,
         ) -> u32;
-        pub fn calls_check(n: u32, k: u32, b: u32, table: *const u8, codes: usize) -> u32;
-        pub fn calls_check_place(n: u32, k: u32, b: u32, table: *const u8, codes: usize) -> u32;
+        pub fn calls_check(
+            n: u32,
+            k: u32,
+            b: u32,
+            count: u32,
+            table: *const u8,
+            codes: usize,
+        ) -> u32;
+        pub fn calls_check_place(
+            n: u32,
+            k: u32,
+            b: u32,
+            count: u32,
+            table: *const u8,
+            codes: usize,
+        ) -> u32;
         pub fn calls_part(
             n: u32,
             k: u32,
             b: u32,
+            count: u32,
             table: *const u8,
             codes: usize,
             uid: u32,
@@ -71,12 +105,28 @@ mod foreign {
             n: u32,
             k: u32,
             b: u32,
+            count: u32,
             x: u32,
             y: u32,
             room: *mut u32,
             length: usize,
         ) -> u32;
-        pub fn calls_route_links(n: u32, k: u32, b: u32, x: u32, y: u32) -> u32;
+        pub fn calls_route_links(n: u32, k: u32, b: u32, count: u32, x: u32, y: u32) -> u32;
+    }
+
+    #[link(name = "calls_plan", kind = "static")]
+    unsafe extern "C" {
+        pub fn calls_racks(n: u32, k: u32) -> u32;
+        pub fn calls_next_prefix(
+            n: u32,
+            k: u32,
+            b: u32,
+            count: u32,
+            room: *mut u32,
+            length: usize,
+        ) -> u32;
+        pub fn calls_is_fitted(n: u32, k: u32, b: u32, count: u32, uid: u32) -> bool;
+        pub fn calls_fitted_servers(n: u32, k: u32, b: u32, count: u32, uid: u32) -> u32;
     }
 
     #[link(name = "calls_packets", kind = "static")]
@@ -85,6 +135,7 @@ mod foreign {
             n: u32,
             k: u32,
             b: u32,
+            count: u32,
             source: u32,
             dst: u32,
             has_proxy: u32,
@@ -100,6 +151,7 @@ mod foreign {
             n: u32,
             k: u32,
             b: u32,
+            count: u32,
             source: u32,
             dst: u32,
             has_proxy: u32,
@@ -115,6 +167,7 @@ mod foreign {
             n: u32,
             k: u32,
             b: u32,
+            count: u32,
             uid: u32,
             table: *const u8,
             codes: usize,
@@ -125,6 +178,7 @@ mod foreign {
             n: u32,
             k: u32,
             b: u32,
+            count: u32,
             uid: u32,
             table: *const u8,
             codes: usize,
@@ -135,6 +189,7 @@ mod foreign {
             n: u32,
             k: u32,
             b: u32,
+            count: u32,
             uid: u32,
             target: u32,
             table: *const u8,
@@ -148,6 +203,7 @@ mod foreign {
             n: u32,
             k: u32,
             b: u32,
+            count: u32,
             table: *const u8,
             codes: usize,
             source: u32,
@@ -165,6 +221,7 @@ mod foreign {
             n: u32,
             k: u32,
             b: u32,
+            count: u32,
             x: u32,
             y: u32,
             room: *mut u8,
@@ -174,6 +231,7 @@ mod foreign {
             n: u32,
             k: u32,
             b: u32,
+            count: u32,
             table: *const u8,
             codes: usize,
             uid: u32,
@@ -184,6 +242,7 @@ mod foreign {
             n: u32,
             k: u32,
             b: u32,
+            count: u32,
             uid: u32,
             dst: u32,
             has_proxy: u32,
@@ -222,11 +281,12 @@ mod foreign {
         pub fn calls_n_fits(n: u32) -> bool;
         pub fn calls_k_fits(n: u32, k: u32) -> bool;
         pub fn calls_b_fits(k: u32, b: u32) -> bool;
-        pub fn calls_servers(n: u32, k: u32, b: u32) -> u32;
+        pub fn calls_servers(n: u32, k: u32, b: u32, count: u32) -> u32;
         pub fn calls_first_link(
             n: u32,
             k: u32,
             b: u32,
+            count: u32,
             x: u32,
             y: u32,
             room: *mut u32,
@@ -236,6 +296,7 @@ mod foreign {
             n: u32,
             k: u32,
             b: u32,
+            count: u32,
             table: *const u8,
             codes: usize,
             server: u32,
@@ -330,6 +391,7 @@ mod foreign {
             n: u32,
             k: u32,
             b: u32,
+            count: u32,
             at: usize,
             room: *mut u8,
             length: usize,
@@ -375,7 +437,7 @@ mod foreign {
 /// The sizes of a hall.
 #[inline]
 pub fn sizes(h: Hall, room: &mut [u32]) -> u32 {
-    unsafe { foreign::calls_sizes(h.n, h.k, h.b, room.as_mut_ptr(), room.len()) }
+    unsafe { foreign::calls_sizes(h.n, h.k, h.b, h.count, room.as_mut_ptr(), room.len()) }
 }
 
 /// The uid of a tuple.
@@ -383,34 +445,34 @@ pub fn sizes(h: Hall, room: &mut [u32]) -> u32 {
 pub fn uid(h: Hall, tuple: [u32; LEVELS], room: &mut [u32]) -> u32 {
     let [a0, a1, a2, a3] = tuple;
     let (start, length) = (room.as_mut_ptr(), room.len());
-    unsafe { foreign::calls_uid(h.n, h.k, h.b, a0, a1, a2, a3, start, length) }
+    unsafe { foreign::calls_uid(h.n, h.k, h.b, h.count, a0, a1, a2, a3, start, length) }
 }
 
 /// The tuple of a uid.
 #[inline]
 pub fn tuple(h: Hall, uid: u32, room: &mut [u32]) -> u32 {
-    unsafe { foreign::calls_tuple(h.n, h.k, h.b, uid, room.as_mut_ptr(), room.len()) }
+    unsafe { foreign::calls_tuple(h.n, h.k, h.b, h.count, uid, room.as_mut_ptr(), room.len()) }
 }
 
 /// The DCell of a level around a server.
 #[inline]
 pub fn cell(h: Hall, uid: u32, level: u32, room: &mut [u32]) -> u32 {
     let (start, length) = (room.as_mut_ptr(), room.len());
-    unsafe { foreign::calls_cell(h.n, h.k, h.b, uid, level, start, length) }
+    unsafe { foreign::calls_cell(h.n, h.k, h.b, h.count, uid, level, start, length) }
 }
 
 /// The neighbour of a server at a level.
 #[inline]
 pub fn neighbour(h: Hall, uid: u32, level: u32, room: &mut [u32]) -> u32 {
     let (start, length) = (room.as_mut_ptr(), room.len());
-    unsafe { foreign::calls_neighbour(h.n, h.k, h.b, uid, level, start, length) }
+    unsafe { foreign::calls_neighbour(h.n, h.k, h.b, h.count, uid, level, start, length) }
 }
 
 /// The link between two sub-cells of the DCell of a level around a server.
 #[inline]
 pub fn link(h: Hall, uid: u32, level: u32, p: u32, q: u32, room: &mut [u32]) -> u32 {
     let (start, length) = (room.as_mut_ptr(), room.len());
-    unsafe { foreign::calls_link(h.n, h.k, h.b, uid, level, p, q, start, length) }
+    unsafe { foreign::calls_link(h.n, h.k, h.b, h.count, uid, level, p, q, start, length) }
 }
 
 /// Whether n is in its range.
@@ -434,25 +496,50 @@ pub fn b_fits(k: u32, b: u32) -> bool {
 /// The servers of a hall; 0 where there is no such hall.
 #[inline]
 pub fn servers(h: Hall) -> u32 {
-    unsafe { foreign::calls_servers(h.n, h.k, h.b) }
+    unsafe { foreign::calls_servers(h.n, h.k, h.b, h.count) }
 }
 
 /// The servers of a DCell of a level; 0 where there is no such hall or level.
 #[inline]
 pub fn size_of(h: Hall, level: u32) -> u32 {
-    unsafe { foreign::calls_size_of(h.n, h.k, h.b, level) }
+    unsafe { foreign::calls_size_of(h.n, h.k, h.b, h.count, level) }
+}
+
+/// The DCell(1)s that a hall can have; 0 where n or k is outside its range.
+#[inline]
+pub fn racks(n: u32, k: u32) -> u32 {
+    unsafe { foreign::calls_racks(n, k) }
+}
+
+/// The prefix of the DCell(1) to be fitted next, as the tuple of its first server.
+#[inline]
+pub fn next_prefix(h: Hall, room: &mut [u32]) -> u32 {
+    let (start, length) = (room.as_mut_ptr(), room.len());
+    unsafe { foreign::calls_next_prefix(h.n, h.k, h.b, h.count, start, length) }
+}
+
+/// Whether a server is fitted; none is where there is no such hall or server.
+#[inline]
+pub fn is_fitted(h: Hall, uid: u32) -> bool {
+    unsafe { foreign::calls_is_fitted(h.n, h.k, h.b, h.count, uid) }
+}
+
+/// The fitted servers of the DCell(2) around a server; 0 where there is no such hall, server or DCell.
+#[inline]
+pub fn fitted_servers(h: Hall, uid: u32) -> u32 {
+    unsafe { foreign::calls_fitted_servers(h.n, h.k, h.b, h.count, uid) }
 }
 
 /// The check of a hall table: its refusal.
 #[inline]
 pub fn check(h: Hall, table: &[u8]) -> u32 {
-    unsafe { foreign::calls_check(h.n, h.k, h.b, table.as_ptr(), table.len()) }
+    unsafe { foreign::calls_check(h.n, h.k, h.b, h.count, table.as_ptr(), table.len()) }
 }
 
 /// The check of a hall table: the place of its first unknown code, else 0.
 #[inline]
 pub fn check_place(h: Hall, table: &[u8]) -> u32 {
-    unsafe { foreign::calls_check_place(h.n, h.k, h.b, table.as_ptr(), table.len()) }
+    unsafe { foreign::calls_check_place(h.n, h.k, h.b, h.count, table.as_ptr(), table.len()) }
 }
 
 /// The part of a hall table that holds the DCell(b) of a server.
@@ -460,7 +547,7 @@ pub fn check_place(h: Hall, table: &[u8]) -> u32 {
 pub fn part(h: Hall, table: &[u8], uid: u32, room: &mut [u8]) -> u32 {
     let (codes, count) = (table.as_ptr(), table.len());
     let (start, length) = (room.as_mut_ptr(), room.len());
-    unsafe { foreign::calls_part(h.n, h.k, h.b, codes, count, uid, start, length) }
+    unsafe { foreign::calls_part(h.n, h.k, h.b, h.count, codes, count, uid, start, length) }
 }
 
 /// The table lent to a step of a server: that part, and the codes of the far ports behind it.
@@ -468,14 +555,14 @@ pub fn part(h: Hall, table: &[u8], uid: u32, room: &mut [u8]) -> u32 {
 pub fn step_table(h: Hall, table: &[u8], uid: u32, room: &mut [u8]) -> u32 {
     let (codes, count) = (table.as_ptr(), table.len());
     let (start, length) = (room.as_mut_ptr(), room.len());
-    unsafe { foreign::tbexlum_step_table(h.n, h.k, h.b, codes, count, uid, start, length) }
+    unsafe { foreign::tbexlum_step_table(h.n, h.k, h.b, h.count, codes, count, uid, start, length) }
 }
 
 /// Whether a port of a server is up.
 #[inline]
 pub fn is_up(h: Hall, table: &[u8], server: u32, port: u32) -> bool {
     let (codes, count) = (table.as_ptr(), table.len());
-    unsafe { foreign::calls_is_up(h.n, h.k, h.b, codes, count, server, port) }
+    unsafe { foreign::calls_is_up(h.n, h.k, h.b, h.count, codes, count, server, port) }
 }
 
 /// Whether a code is known.
@@ -520,25 +607,27 @@ pub fn put_bytes(room: &mut [u8], at: usize, bytes: &[u8]) {
 /// The uids of the route from x to y, zeros behind them.
 #[inline]
 pub fn route(h: Hall, x: u32, y: u32, room: &mut [u32]) -> u32 {
-    unsafe { foreign::calls_route(h.n, h.k, h.b, x, y, room.as_mut_ptr(), room.len()) }
+    unsafe { foreign::calls_route(h.n, h.k, h.b, h.count, x, y, room.as_mut_ptr(), room.len()) }
 }
 
 /// The links of the route from x to y; 0 where it is refused.
 #[inline]
 pub fn route_links(h: Hall, x: u32, y: u32) -> u32 {
-    unsafe { foreign::calls_route_links(h.n, h.k, h.b, x, y) }
+    unsafe { foreign::calls_route_links(h.n, h.k, h.b, h.count, x, y) }
 }
 
 /// The route from x to y in the driver's form.
 #[inline]
 pub fn driver_route(h: Hall, x: u32, y: u32, room: &mut [u8]) -> u32 {
-    unsafe { foreign::tbexlum_route(h.n, h.k, h.b, x, y, room.as_mut_ptr(), room.len()) }
+    unsafe { foreign::tbexlum_route(h.n, h.k, h.b, h.count, x, y, room.as_mut_ptr(), room.len()) }
 }
 
 /// The level and the ends of the first link above b of the route from x to y; zeros where there is none.
 #[inline]
 pub fn first_link(h: Hall, x: u32, y: u32, room: &mut [u32]) -> u32 {
-    unsafe { foreign::calls_first_link(h.n, h.k, h.b, x, y, room.as_mut_ptr(), room.len()) }
+    unsafe {
+        foreign::calls_first_link(h.n, h.k, h.b, h.count, x, y, room.as_mut_ptr(), room.len())
+    }
 }
 
 /// The distances from a server to all of its DCell(b).
@@ -546,7 +635,7 @@ pub fn first_link(h: Hall, x: u32, y: u32, room: &mut [u32]) -> u32 {
 pub fn distances(h: Hall, uid: u32, table: &[u8], room: &mut [u8]) -> u32 {
     let (codes, count) = (table.as_ptr(), table.len());
     let (start, length) = (room.as_mut_ptr(), room.len());
-    unsafe { foreign::calls_distances(h.n, h.k, h.b, uid, codes, count, start, length) }
+    unsafe { foreign::calls_distances(h.n, h.k, h.b, h.count, uid, codes, count, start, length) }
 }
 
 /// The origin of these distances and their count.
@@ -554,7 +643,9 @@ pub fn distances(h: Hall, uid: u32, table: &[u8], room: &mut [u8]) -> u32 {
 pub fn distances_origin(h: Hall, uid: u32, table: &[u8], room: &mut [u32]) -> u32 {
     let (codes, count) = (table.as_ptr(), table.len());
     let (start, length) = (room.as_mut_ptr(), room.len());
-    unsafe { foreign::calls_distances_origin(h.n, h.k, h.b, uid, codes, count, start, length) }
+    unsafe {
+        foreign::calls_distances_origin(h.n, h.k, h.b, h.count, uid, codes, count, start, length)
+    }
 }
 
 /// The local next hop from a server towards a target.
@@ -562,7 +653,11 @@ pub fn distances_origin(h: Hall, uid: u32, table: &[u8], room: &mut [u32]) -> u3
 pub fn next_hop(h: Hall, uid: u32, target: u32, table: &[u8], room: &mut [u32]) -> u32 {
     let (codes, count) = (table.as_ptr(), table.len());
     let (start, length) = (room.as_mut_ptr(), room.len());
-    unsafe { foreign::calls_next_hop(h.n, h.k, h.b, uid, target, codes, count, start, length) }
+    unsafe {
+        foreign::calls_next_hop(
+            h.n, h.k, h.b, h.count, uid, target, codes, count, start, length,
+        )
+    }
 }
 
 /// The header of a frame in the driver's form.
@@ -626,7 +721,7 @@ pub fn broadcast(
     let (start, length) = (room.as_mut_ptr(), room.len());
     unsafe {
         foreign::calls_broadcast(
-            h.n, h.k, h.b, codes, count, source, scope, first, servers, start, length,
+            h.n, h.k, h.b, h.count, codes, count, source, scope, first, servers, start, length,
         )
     }
 }
@@ -639,6 +734,7 @@ pub fn step(h: Hall, uid: u32, p: Packet, flag: u32, table: &[u8], room: &mut [u
             h.n,
             h.k,
             h.b,
+            h.count,
             uid,
             p.dst,
             flag,
@@ -661,6 +757,7 @@ pub fn journey(h: Hall, source: u32, p: Packet, flag: u32, table: &[u8], room: &
             h.n,
             h.k,
             h.b,
+            h.count,
             source,
             p.dst,
             flag,
@@ -690,6 +787,7 @@ pub fn journey_counts(
             h.n,
             h.k,
             h.b,
+            h.count,
             source,
             p.dst,
             flag,
@@ -775,7 +873,18 @@ pub fn end_line(packets: u32, at: usize, room: &mut [u8], end: &mut usize) -> u3
 /// The line of a hall, written at a place; the place behind it.
 #[inline]
 pub fn hall_line(h: Hall, at: usize, room: &mut [u8], end: &mut usize) -> u32 {
-    unsafe { foreign::calls_hall_line(h.n, h.k, h.b, at, room.as_mut_ptr(), room.len(), end) }
+    unsafe {
+        foreign::calls_hall_line(
+            h.n,
+            h.k,
+            h.b,
+            h.count,
+            at,
+            room.as_mut_ptr(),
+            room.len(),
+            end,
+        )
+    }
 }
 
 /// The line of a refused sheet, written at a place; the place behind it.

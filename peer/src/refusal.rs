@@ -2,7 +2,7 @@
 
 /// No refusal.
 pub const NONE: u32 = 0;
-/// n, k or b is outside its range.
+/// n, k, b or the count of DCell(1)s fitted is outside its range, or the planner is asked for a hall that is not filled by DCell(1)s.
 pub const HALL: u32 = 1;
 /// A uid is not below t(k).
 pub const UID: u32 = 2;
@@ -26,6 +26,8 @@ pub const SHEET: u32 = 10;
 pub const ADDRESS: u32 = 11;
 /// The scope of a broadcast call is too high; it shares the number of an address of the wrong kind.
 pub const SCOPE: u32 = ADDRESS;
+/// The planner is asked for a hall that is full.
+pub const FULL: u32 = 12;
 /// The version of a frame is not the one there is.
 pub const VERSION: u32 = 13;
 /// The DHL of a frame is neither 5 nor 6.

@@ -278,6 +278,29 @@ mod tests {
     }
 
     #[test]
+    fn a_hall_that_is_not_full_is_traced_by_the_codes_that_count_and_keeps_its_three_numbers() {
+        let packets = [
+            [0, 17, 5, 15],
+            [0, 18, 5, 15],
+            [18, 19, 5, 15],
+            [18, 18, 5, 15],
+        ];
+        let mut bytes = sheet([2, 2, 0], &[1; 126], &packets);
+        let full = "HALL 2 2 0\n0 17 DELIVERED 5 0 : 0 1 12 13 16 17\n\
+                    0 18 DELIVERED 2 0 : 0 2 18\n18 19 DELIVERED 1 0 : 18 19\n\
+                    18 18 DELIVERED 0 0 : 18\nEND 4\n";
+        assert_eq!(text(&bytes), full);
+        bytes[3] = 7;
+        bytes.splice(7..7, [0, 0, 0, 3]);
+        let part = "HALL 2 2 0\n0 17 DELIVERED 5 0 : 0 1 12 13 16 17\n\
+                    0 18 DROP4 1 0 : 0 2\n18 19 DROP2 0 0 : 18\n\
+                    18 18 DELIVERED 0 0 : 18\nEND 4\n";
+        assert_eq!(text(&bytes), part);
+        bytes[10] = 7;
+        assert_eq!(text(&bytes), "REFUSED 1 7\n");
+    }
+
+    #[test]
     fn a_sheet_of_no_packets_prints_hall_and_end() {
         let bytes = sheet([2, 0, 0], &[1, 1], &[]);
         assert_eq!(text(&bytes), "HALL 2 0 0\nEND 0\n");
@@ -305,7 +328,8 @@ mod tests {
     #[test]
     fn lines_of_halls_and_refusals_take_any_numbers() {
         let (n, k, b) = (0, 77, u32::MAX);
-        let line = added(|text| hall_line(text, Hall { n, k, b }));
+        let count = u32::MAX;
+        let line = added(|text| hall_line(text, Hall { n, k, b, count }));
         assert_eq!(line, "HALL 0 77 4294967295\n");
         let line = added(|text| refused_line(text, 10, 65_536));
         assert_eq!(line, "REFUSED 10 65536\n");

@@ -190,7 +190,7 @@ mod tests {
     use crate::naive;
     use crate::random::Random;
 
-    const PAIR_HALL: Hall = Hall { n: 2, k: 2, b: 0 };
+    const PAIR_HALL: Hall = Hall::full(2, 2, 0);
 
     fn servers(route: &Route) -> &[u32] {
         &route.uids[..=route.links as usize]
@@ -222,7 +222,7 @@ mod tests {
 
     #[test]
     fn two_servers_of_one_switch_have_a_route_of_one_link() {
-        let answer = route(Hall { n: 4, k: 1, b: 1 }, 5, 7);
+        let answer = route(Hall::full(4, 1, 1), 5, 7);
         assert_eq!(servers(&answer), [5, 7]);
     }
 
@@ -233,7 +233,7 @@ mod tests {
             links: 0,
             uids: [0; 16],
         };
-        assert_eq!(route(Hall { n: 2, k: 2, b: 2 }, 99, 99), refused(1));
+        assert_eq!(route(Hall::full(2, 2, 2), 99, 99), refused(1));
         assert_eq!(route(PAIR_HALL, 42, 0), refused(2));
         assert_eq!(route(PAIR_HALL, 0, 42), refused(2));
     }
@@ -258,7 +258,7 @@ mod tests {
     fn routes_of_the_largest_halls_are_those_of_the_definition() {
         let mut random = Random::new(3);
         for n in 3..=8 {
-            let h = Hall { n, k: 3, b: 1 };
+            let h = Hall::full(n, 3, 1);
             let count = naive::servers(h);
             for _ in 0..2000 {
                 let (x, y) = (random.below(count), random.below(count));
@@ -269,7 +269,7 @@ mod tests {
 
     #[test]
     fn every_route_is_a_chain_of_links_that_passes_no_server_twice() {
-        let halls = [(2, 2), (2, 3), (3, 2), (8, 1)].map(|(n, k)| Hall { n, k, b: 0 });
+        let halls = [(2, 2), (2, 3), (3, 2), (8, 1)].map(|(n, k)| Hall::full(n, k, 0));
         for h in halls {
             let count = naive::servers(h);
             for x in (0..count).step_by(1 + count as usize / 200) {
@@ -293,7 +293,7 @@ mod tests {
 
     #[test]
     fn the_largest_hall_has_a_route_of_15_links() {
-        let h = Hall { n: 8, k: 3, b: 1 };
+        let h = Hall::full(8, 3, 1);
         let mut random = Random::new(15);
         let longest = (0..10_000)
             .map(|_| route(h, random.below(27_630_792), random.below(27_630_792)).links)
@@ -316,7 +316,7 @@ mod tests {
         let mut room = [0xEE; 31];
         assert_eq!(route_words(PAIR_HALL, 5, 11, &mut room), 6);
         assert_eq!(route_words(PAIR_HALL, 42, 11, &mut room), 2);
-        assert_eq!(route_words(Hall { n: 1, k: 2, b: 0 }, 42, 11, &mut room), 1);
+        assert_eq!(route_words(Hall::full(1, 2, 0), 42, 11, &mut room), 1);
         assert_eq!(room, [0xEE; 31]);
         assert_eq!(route_words(PAIR_HALL, 3, 3, &mut []), 6);
         assert_eq!(route_words(PAIR_HALL, 3, 3, &mut room), 0);
@@ -371,7 +371,7 @@ mod tests {
         }
         let mut random = Random::new(5);
         for (n, b) in (3..=8).flat_map(|n| [(n, 0), (n, 1)]) {
-            let h = Hall { n, k: 3, b };
+            let h = Hall::full(n, 3, b);
             let count = naive::servers(h);
             for _ in 0..2000 {
                 let (x, y) = (random.below(count), random.below(count));
@@ -392,8 +392,8 @@ mod tests {
         let none = told([0; 3]);
         assert_eq!(first_link(PAIR_HALL, 5, 5), none);
         assert_eq!(first_link(PAIR_HALL, 5, 4), none);
-        assert_eq!(first_link(Hall { n: 2, k: 2, b: 1 }, 5, 0), none);
-        assert_eq!(first_link(Hall { n: 4, k: 0, b: 0 }, 0, 3), none);
+        assert_eq!(first_link(Hall::full(2, 2, 1), 5, 0), none);
+        assert_eq!(first_link(Hall::full(4, 0, 0), 0, 3), none);
     }
 
     #[test]
@@ -402,7 +402,7 @@ mod tests {
             refusal,
             ..told([0; 3])
         };
-        assert_eq!(first_link(Hall { n: 2, k: 2, b: 2 }, 42, 11), refused(1));
+        assert_eq!(first_link(Hall::full(2, 2, 2), 42, 11), refused(1));
         assert_eq!(first_link(PAIR_HALL, 42, 11), refused(2));
         assert_eq!(first_link(PAIR_HALL, 5, 42), refused(2));
         assert_eq!(first_link(PAIR_HALL, u32::MAX, u32::MAX), refused(2));

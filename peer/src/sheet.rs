@@ -1,7 +1,7 @@
 //! The night sheet: a hall, its table and its packets, checked field by field in byte order.
 
 use crate::forward::MOST_RETRY;
-use crate::hall::{self, Hall};
+use crate::hall::{self, Hall, LEAST_FILLED_K};
 use crate::ports;
 use crate::refusal;
 
@@ -10,12 +10,12 @@ pub const SHEET_ROOM: usize = 65_536;
 /// The bytes of a packet.
 pub const PACKET_BYTES: usize = 10;
 
-/// The right first count: the bytes n, k and b.
-const HALL_BYTES: u32 = 3;
+/// The first count of a full hall: the bytes n, k and b.
+const FULL_BYTES: u32 = 3;
+/// The first count of a hall that is not full: these bytes and the number of DCell(1)s fitted.
+const PART_BYTES: u32 = FULL_BYTES + COUNT_BYTES as u32;
 /// The bytes of a count.
 const COUNT_BYTES: usize = 4;
-/// The offset of the second count, that of the codes.
-const CODES_COUNT_OFFSET: usize = COUNT_BYTES + HALL_BYTES as usize;
 /// The offset of dst in a packet.
 const DST_OFFSET: usize = 4;
 /// The offset of the retry in a packet.
@@ -29,6 +29,7 @@ pub struct Sheet {
     pub n: u32,
     pub k: u32,
     pub b: u32,
+    pub count: u32,
     pub packets: u32,
 }
 
@@ -66,6 +67,7 @@ pub fn read(sheet: &[u8]) -> Sheet {
             n: parts.hall.n,
             k: parts.hall.k,
             b: parts.hall.b,
+            count: parts.hall.count,
             packets: parts.packets.len() as u32,
         },
         Err(fault) => Sheet {
@@ -74,6 +76,7 @@ pub fn read(sheet: &[u8]) -> Sheet {
             n: 0,
             k: 0,
             b: 0,
+            count: 0,
             packets: 0,
         },
     }
@@ -125,8 +128,17 @@ fn whole_word(sheet: &[u8], at: usize) -> Option<u32> {
 
 /// The bytes that the second count says and those behind them; none where they are not all there.
 fn split_behind_codes(sheet: &[u8]) -> Option<(&[u8], &[u8])> {
-    let (count, behind) = sheet.get(CODES_COUNT_OFFSET..)?.split_first_chunk()?;
+    let (count, behind) = sheet
+        .get(second_count_offset(sheet)..)?
+        .split_first_chunk()?;
     behind.split_at_checked(u32::from_be_bytes(*count) as usize)
+}
+
+/// The offset of the second count, that of the codes: behind the longer first section where the first count says so, else behind the
+/// shorter one.
+fn second_count_offset(sheet: &[u8]) -> usize {
+    let long = word_at(sheet, 0) == PART_BYTES;
+    COUNT_BYTES + if long { PART_BYTES } else { FULL_BYTES } as usize
 }
 
 /// The packet of its bytes.
@@ -173,7 +185,6 @@ pub(crate) fn parse(sheet: &[u8]) -> Result<Parts<'_>, Fault> {
         return Err(Fault::at(refusal::SHEET, SHEET_ROOM));
     }
     let mut reader = Reader { sheet, at: 0 };
-    reader.count(HALL_BYTES)?;
     let hall = reader.hall()?;
     let scale = hall::scale(hall).ok_or(Fault::at(refusal::HALL, 0))?;
     let length = scale.table_length(hall.k, hall.k);
@@ -233,12 +244,32 @@ impl<'a> Reader<'a> {
         Ok(())
     }
 
-    /// n, k and b.
+    /// The first section with its count: n, k and b, and in the longer form how many DCell(1)s are fitted.
     fn hall(&mut self) -> Result<Hall, Fault> {
+        let place = self.at;
+        let bytes = self.word()?;
+        if bytes != FULL_BYTES && bytes != PART_BYTES {
+            return Err(Fault::at(refusal::LENGTH, place));
+        }
         let n = self.byte(hall::n_fits)?;
         let k = self.byte(|k| hall::k_fits(n, k))?;
         let b = self.byte(|b| hall::b_fits(k, b))?;
-        Ok(Hall { n, k, b })
+        let full = Hall::full(n, k, b);
+        if bytes == FULL_BYTES {
+            return Ok(full);
+        }
+        let count = self.part_count(full)?;
+        Ok(Hall { count, ..full })
+    }
+
+    /// The number of DCell(1)s fitted in a hall that is not full, of which the full one is told.
+    fn part_count(&mut self, full: Hall) -> Result<u32, Fault> {
+        let place = self.at;
+        let count = self.word()?;
+        if full.k < LEAST_FILLED_K || count >= full.count {
+            return Err(Fault::at(refusal::HALL, place));
+        }
+        Ok(count)
     }
 
     /// So many codes.
@@ -331,13 +362,37 @@ mod tests {
             n: 0,
             k: 0,
             b: 0,
+            count: 0,
             packets: 0,
         }
+    }
+
+    /// The sheet of a hall of n = 2, k = 2, b = 1 with so many of its seven DCell(1)s fitted, all up, with so many packets.
+    fn part_sample(count: u32, packets: usize) -> Vec<u8> {
+        let mut sheet = vec![0, 0, 0, 7, 2, 2, 1];
+        sheet.extend(count.to_be_bytes());
+        sheet.extend([0, 0, 0, 126]);
+        sheet.extend([1; 126]);
+        sheet.extend((packets as u32).to_be_bytes());
+        for _ in 0..packets {
+            sheet.extend([0, 0, 0, 0, 0, 0, 0, 17, 5, 15]);
+        }
+        sheet
     }
 
     fn with(mut sheet: Vec<u8>, at: usize, byte: u8) -> Vec<u8> {
         sheet[at] = byte;
         sheet
+    }
+
+    /// The one sheet or the other, with a few packets.
+    fn any_sample(random: &mut Random) -> Vec<u8> {
+        let packets = random.below(4) as usize;
+        if random.once_in(2) {
+            sample(packets)
+        } else {
+            part_sample(random.below(9), packets)
+        }
     }
 
     /// Reads a sheet one byte-order sentence after the other, with no slices of whole parts.
@@ -350,11 +405,11 @@ mod tests {
             let bytes: Option<Vec<u8>> = (at..at + 4).map(|i| sheet.get(i).copied()).collect();
             bytes.map(|b| b.iter().fold(0, |sum, &byte| sum << 8 | u32::from(byte)))
         };
-        match word(0) {
+        let section = match word(0) {
             None => return (10, length),
-            Some(3) => {}
+            Some(section @ (3 | 7)) => section as usize,
             Some(_) => return (4, 0),
-        }
+        };
         let mut hall = [0; 3];
         for i in 0..3 {
             let Some(&byte) = sheet.get(4 + i) else {
@@ -374,20 +429,28 @@ mod tests {
         for _ in 0..hall[1] {
             t *= t + 1;
         }
+        if section == 7 {
+            let rack = u32::from(hall[0]) * (u32::from(hall[0]) + 1);
+            match word(7) {
+                None => return (10, length),
+                Some(count) if hall[1] >= 2 && count < t / rack => {}
+                Some(_) => return (1, 7),
+            }
+        }
         let codes = (t * u32::from(hall[1] + 1)) as usize;
-        match word(7) {
+        match word(4 + section) {
             None => return (10, length),
             Some(count) if count as usize == codes => {}
-            Some(_) => return (4, 7),
+            Some(_) => return (4, 4 + section),
         }
-        for at in 11..11 + codes {
+        for at in 8 + section..8 + section + codes {
             match sheet.get(at) {
                 None => return (10, length),
                 Some(0..=4) => {}
                 Some(_) => return (5, at),
             }
         }
-        let mut at = 11 + codes;
+        let mut at = 8 + section + codes;
         let Some(count) = word(at) else {
             return (10, length);
         };
@@ -426,6 +489,7 @@ mod tests {
             n: 4,
             k: 1,
             b: 0,
+            count: 1,
             packets: 1,
         };
         assert_eq!(read(&sheet), expected);
@@ -559,13 +623,120 @@ mod tests {
 
     #[test]
     fn every_single_wrong_byte_is_told_as_by_the_literal_reader() {
-        let whole = sample(2);
-        for at in 0..whole.len() {
-            for byte in 0..=255 {
-                let sheet = with(whole.clone(), at, byte);
-                let answer = read(&sheet);
-                assert_eq!((answer.refusal, answer.place as usize), literal(&sheet));
+        for whole in [sample(2), part_sample(3, 2), part_sample(0, 1)] {
+            for at in 0..whole.len() {
+                for byte in 0..=255 {
+                    let sheet = with(whole.clone(), at, byte);
+                    let answer = read(&sheet);
+                    assert_eq!((answer.refusal, answer.place as usize), literal(&sheet));
+                }
             }
+        }
+    }
+
+    #[test]
+    fn a_section_of_7_bytes_tells_how_many_dcell_1s_are_fitted() {
+        for count in 0..7 {
+            let sheet = part_sample(count, 2);
+            let expected = Sheet {
+                refusal: 0,
+                place: 0,
+                n: 2,
+                k: 2,
+                b: 1,
+                count,
+                packets: 2,
+            };
+            assert_eq!(read(&sheet), expected);
+            assert_eq!(codes(&sheet), [1; 126]);
+            assert_eq!(codes_part(&sheet), [1; 126]);
+            assert_eq!(packet(&sheet, 1).dst, 17);
+            assert_eq!(packet_fields(&sheet, 1), packet(&sheet, 1));
+        }
+    }
+
+    #[test]
+    fn a_section_of_7_bytes_with_a_full_count_or_one_too_high_gets_1_at_7() {
+        for count in [7, 8, 255, 256, 1 << 24, u32::MAX] {
+            assert_eq!(read(&part_sample(count, 1)), refused(1, 7));
+        }
+    }
+
+    #[test]
+    fn a_section_of_7_bytes_with_k_below_2_gets_1_at_7_whatever_its_count() {
+        for k in [0, 1] {
+            for count in [0u32, 1, 2, u32::MAX] {
+                let mut sheet = vec![0, 0, 0, 7, 4, k, 0];
+                sheet.extend(count.to_be_bytes());
+                assert_eq!(read(&sheet), refused(1, 7));
+                sheet.pop();
+                assert_eq!(read(&sheet), refused(10, 10));
+            }
+        }
+    }
+
+    #[test]
+    fn a_first_count_other_than_3_and_7_gets_4_at_0() {
+        for count in (0..=255).filter(|count| ![3, 7].contains(count)) {
+            assert_eq!(read(&with(sample(1), 3, count)), refused(4, 0));
+            assert_eq!(read(&with(part_sample(3, 1), 3, count)), refused(4, 0));
+        }
+        for place in 0..3 {
+            assert_eq!(read(&with(sample(1), place, 1)), refused(4, 0));
+            assert_eq!(read(&with(part_sample(3, 1), place, 1)), refused(4, 0));
+        }
+    }
+
+    #[test]
+    fn a_cut_within_the_count_of_dcell_1s_is_told_at_the_length() {
+        let sheet = part_sample(u32::MAX, 1);
+        for length in 0..11 {
+            assert_eq!(read(&sheet[..length]), refused(10, length));
+        }
+        assert_eq!(read(&sheet[..11]), refused(1, 7));
+        let sheet = part_sample(3, 2);
+        for length in 0..sheet.len() {
+            assert_eq!(read(&sheet[..length]), refused(10, length));
+        }
+    }
+
+    #[test]
+    fn n_k_and_b_are_asked_before_the_count_of_dcell_1s() {
+        let sheet = part_sample(u32::MAX, 1);
+        for (at, byte) in [(4, 9), (5, 4), (6, 2)] {
+            assert_eq!(read(&with(sheet.clone(), at, byte)), refused(1, at));
+        }
+    }
+
+    #[test]
+    fn behind_a_section_of_7_bytes_every_field_stands_4_bytes_farther_on() {
+        let cases = [
+            (14, 127, 4, 11),
+            (15, 5, 5, 15),
+            (140, 9, 5, 140),
+            (148, 42, 2, 145),
+            (152, 42, 2, 149),
+            (153, 16, 8, 153),
+        ];
+        for (at, byte, refusal, place) in cases {
+            let sheet = with(part_sample(3, 1), at, byte);
+            assert_eq!(read(&sheet), refused(refusal, place));
+        }
+        let mut sheet = part_sample(3, 1);
+        let length = sheet.len();
+        sheet.push(1);
+        assert_eq!(read(&sheet), refused(10, length));
+    }
+
+    #[test]
+    fn a_section_of_3_bytes_names_a_full_hall() {
+        for (n, k, codes) in [(2, 0, 2), (4, 1, 40), (2, 2, 126), (2, 3, 7_224)] {
+            let mut sheet = vec![0, 0, 0, 3, n, k, 0];
+            sheet.extend((codes as u32).to_be_bytes());
+            sheet.resize(11 + codes, 1);
+            sheet.extend([0; 4]);
+            let count = hall::racks_of(u32::from(n), u32::from(k));
+            assert_eq!((read(&sheet).refusal, read(&sheet).count), (0, count));
         }
     }
 
@@ -574,7 +745,7 @@ mod tests {
         let mut random = Random::new(65_536);
         let mut sound = 0;
         for _ in 0..20_000 {
-            let mut sheet = sample(random.below(4) as usize);
+            let mut sheet = any_sample(&mut random);
             for _ in 0..random.below(3) {
                 let at = random.below(sheet.len() as u32) as usize;
                 sheet[at] = random.byte() >> random.below(8);
@@ -614,15 +785,16 @@ mod tests {
     /// The codes and the fields of a packet by their place, one byte after the other.
     fn literal_parts(sheet: &[u8], i: u32) -> (&[u8], Option<[u32; 4]>) {
         let length = sheet.len() as u64;
-        if length < 11 {
+        let word = |at: u64| (at..at + 4).fold(0, |sum, i| sum << 8 | u32::from(sheet[i as usize]));
+        let start = if length >= 4 && word(0) == 7 { 15 } else { 11 };
+        if length < start {
             return (&[], None);
         }
-        let word = |at: u64| (at..at + 4).fold(0, |sum, i| sum << 8 | u32::from(sheet[i as usize]));
-        let end = 11 + u64::from(word(7));
+        let end = start + u64::from(word(start - 4));
         if length < end {
             return (&[], None);
         }
-        let codes = &sheet[11..end as usize];
+        let codes = &sheet[start as usize..end as usize];
         let at = end + 4 + u64::from(i) * 10;
         if length < at + 10 {
             return (codes, None);
@@ -694,13 +866,14 @@ mod tests {
     fn the_parts_of_damaged_sheets_are_told_as_by_the_literal_reader() {
         let mut random = Random::new(40);
         for _ in 0..20_000 {
-            let mut sheet = sample(random.below(4) as usize);
+            let mut sheet = any_sample(&mut random);
             for _ in 0..random.below(3) {
                 let at = random.below(sheet.len() as u32) as usize;
                 sheet[at] = random.byte() >> random.below(8);
             }
             if random.once_in(2) {
-                sheet[10] = random.byte() >> random.below(8);
+                let low = second_count_offset(&sheet) + 3;
+                sheet[low] = random.byte() >> random.below(8);
             }
             if random.once_in(2) {
                 sheet.truncate(random.below(sheet.len() as u32 + 1) as usize);

@@ -5,5 +5,6 @@ pub mod Rooms
 pub mod Reaches
 pub mod Whole
 pub mod Refusals
+pub mod Fitted
 pub mod Calls
 pub mod Meaning

@@ -4,7 +4,7 @@ use mathlib.Core.Path.{_≡_, sym, _∙_, ap}
 use mathlib.Core.Bool.{true, not}
 use mathlib.Core.List.{List}
 use Prim.Native.Nat.{ℕ, zero, suc, _+_, _-_, _%_, _^_, _≤_, _<_}
-use native.Mathlib.Nat.{mod-lt, le-trans}
+use native.Mathlib.Nat.{mod-lt}
 use native.Mathlib.Omega.{arith}
 use native.Mathlib.Numerals.{add-one}
 use lib.Dec.{eqb, leb, lit≤}
@@ -14,7 +14,7 @@ use Rattle.combine.proofs.Tests.{cases, both-true, either-true}
 use Rattle.hall.specs.declared.Hall.{Hall}
 use Rattle.hall.specs.Cells.{t, same, neighbour}
 use Rattle.hall.proofs.Links.{hall-same}
-use Rattle.hall.proofs.Growth.{Valid, valid-known, valid-pos, t-more, t-up}
+use Rattle.hall.proofs.Growth.{Valid, valid-known, valid-pos}
 use Rattle.route.specs.Walks.{Joined, switch, link}
 use Rattle.route.specs.Walks as walks
 use Rattle.route.proofs.Routes.{route-walk, route-length}
@@ -24,13 +24,15 @@ use Rattle.ports.specs.Links.{onSwitch, wired}
 use Rattle.ports.proofs.Links.{same-below, joined-symmetric, joined-agrees}
 use Rattle.ports.proofs.Parts.{Sound}
 use Rattle.ports.proofs.Runs.{joined-run, joined-every, length-run, run-every}
+use Rattle.counted.specs.Counted.{counted}
+use Rattle.counted.proofs.Counted.{counted-length}
 use Rattle.search.specs.Rounds.{reachedCount, lastRound}
 use Rattle.search.specs.Reach.{Means, Symmetric, Walk, done, step}
 use Rattle.search.proofs.Reach.{walk-long}
 use Rattle.search.proofs.Distance.{distance-means, distance-only, distance-self, distance-walk, distances-agree}
 use Rattle.search.proofs.Counts.{reached-start, reached-more, last-reached}
 use Rattle.broadcast.specs.Broadcasts.{none, scopeFits, scopeSize, firstIn, linked, rounds}
-use Rattle.broadcast.proofs.Refusals.{scope-low, scope-two}
+use Rattle.broadcast.proofs.Refusals.{scope-low, scope-two, scope-small}
 
 -- each link of level at most l is one of `wired`
 wired-more : (n l m x y : ℕ) → l ≤ m → wired n l x y ≡ true → wired n m x y ≡ true
@@ -78,11 +80,8 @@ module _ (h : Hall) (table : List ℕ) (u s : ℕ) (k : Sound h table u) (f : sc
   unfolding scopeSize
   scope-pos = valid-pos h known s
 
-  scope-small : scopeSize h s < none
-  unfolding scopeSize t
-  scope-small =
-      let e : t (h .n) s ≤ t 8 2 = le-trans (t-more (h .n) 8 s (known .n-high)) (t-up 8 s 2 (scope-two h s f)) in
-      omega arith
+  few : scopeSize h s < none
+  few = scope-small h s (k .is-valid) f
 
   origin-in : u % scopeSize h s < scopeSize h s
   origin-in = mod-lt u scope-pos
@@ -90,17 +89,17 @@ module _ (h : Hall) (table : List ℕ) (u s : ℕ) (k : Sound h table u) (f : sc
   -- the number of a server is the least number of links from the source, or says that no number of links will do
   pub round-means : (v : ℕ) → v < scopeSize h s → Means (linked h table u s) (scopeSize h s) none (u % scopeSize h s) v (getD (rounds h table u s) v 0)
   unfolding rounds
-  round-means v l = distance-means (linked h table u s) (scopeSize h s) none scope-small (u % scopeSize h s) origin-in v l
+  round-means v l = distance-means (linked h table u s) (scopeSize h s) none few (u % scopeSize h s) origin-in v l
 
   -- and nothing else is
   pub round-only : (v d : ℕ) → v < scopeSize h s → Means (linked h table u s) (scopeSize h s) none (u % scopeSize h s) v d → getD (rounds h table u s) v 0 ≡ d
   unfolding rounds
-  round-only v d l m = distance-only (linked h table u s) (scopeSize h s) none scope-small (u % scopeSize h s) origin-in v d l m
+  round-only v d l m = distance-only (linked h table u s) (scopeSize h s) none few (u % scopeSize h s) origin-in v d l m
 
   -- the source is reached in round 0
   pub source-zero : getD (rounds h table u s) (u % scopeSize h s) 0 ≡ 0
   unfolding rounds
-  source-zero = distance-self (linked h table u s) (scopeSize h s) none scope-small (u % scopeSize h s) origin-in
+  source-zero = distance-self (linked h table u s) (scopeSize h s) none few (u % scopeSize h s) origin-in
 
   -- a link joins both ways
   pub linked-turns : Symmetric (linked h table u s) (scopeSize h s)
@@ -111,7 +110,7 @@ module _ (h : Hall) (table : List ℕ) (u s : ℕ) (k : Sound h table u) (f : sc
   pub rounds-agree : (other : List ℕ) → SameUps table other → rounds h table u s ≡ rounds h other u s
   unfolding rounds linked
   rounds-agree other e =
-      distances-agree (linked h table u s) (linked h other u s) (scopeSize h s) none (u % scopeSize h s) scope-small origin-in
+      distances-agree (linked h table u s) (linked h other u s) (scopeSize h s) none (u % scopeSize h s) few origin-in
       (λ y x i j. joined-agrees h table other e s (firstIn h u s + y) (firstIn h u s + x))
 
   module _ (ups : EveryUp table) where
@@ -137,7 +136,7 @@ module _ (h : Hall) (table : List ℕ) (u s : ℕ) (k : Sound h table u) (f : sc
         let o : ℕ = u % t (h .n) s in
         let one = hall-same (h .n) n-pos s o v origin-in l in
         let w = walk-linked origin-in (route-walk (h .n) s o v one) in
-        let d = distance-walk (linked h table u s) (t (h .n) s) none scope-small o origin-in v l w in
+        let d = distance-walk (linked h table u s) (t (h .n) s) none few o origin-in v l w in
         let m = walk-long (linked h table u s) (t (h .n) s) w in
         omega (arith, route-length (h .n) s o v one)
 
@@ -147,3 +146,7 @@ module _ (h : Hall) (table : List ℕ) (u s : ℕ) (k : Sound h table u) (f : sc
 
     pub every-last : lastRound none (rounds h table u s) (scopeSize h s) < 2 ^ suc s
     every-last = last-below (rounds h table u s) (scopeSize h s) (2 ^ suc s) scope-pos (omega (arith, small-power s (scope-two h s f))) every-soon
+
+-- so much for any table; the one that the answers go by is as sound as the table that it counts
+pub counted-sound : (h : Hall) (table : List ℕ) (u : ℕ) → Sound h table u → Sound h (counted h 0 table) u
+counted-sound h table u k = record { is-valid = k .is-valid; long = counted-length h 0 table ∙ k .long; below = k .below }

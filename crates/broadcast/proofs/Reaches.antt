@@ -26,7 +26,7 @@ use Rattle.search.specs.Rounds.{leads, new, mark, round}
 use Rattle.search.proofs.Rounds.{length-round, round-at}
 use Rattle.search.proofs.Filled.{filled-behind}
 use Rattle.broadcast.specs.Broadcasts.{none}
-use Rattle.broadcast.specs.Sweeps.{reachedBy, fresh, swept, Sweep, between, openOn, onSwitch, onSwitches, overLink, onLinks, onLevels, within, placeAt, neighbourAt, PlaceFits, RoundFits}
+use Rattle.broadcast.specs.Sweeps.{reachedBy, fresh, swept, Sweep, between, openOn, onSwitch, onSwitches, overLink, onLinks, onLevels, within, placeAt, neighbourAt, PlaceFits, RoundFits, Behind}
 use Rattle.broadcast.specs.declared.places.Place.{Place}
 use Rattle.broadcast.proofs.Marks.{below, swept-old, sweep-reads}
 
@@ -47,6 +47,17 @@ fresh-at q p old x e = ap (λ (b : Bool). both (eqb (getD old x 0) none) b) e
 -- a sweep leaves the answers to "who is reached before round r", as one function
 pub reads-same : (q : ℕ → Bool) (r : ℕ) (old room : List ℕ) (any : Bool) → r < none → Sweep q r old room any → reachedBy r room ≡ reachedBy r old
 reads-same q r old room any small s = fun-ext (λ y. sweep-reads q r old room any small s y)
+
+-- where nobody from m on passes, those below m are all to ask
+any-front : (p : ℕ → Bool) (m n : ℕ) → m ≤ n → ((y : ℕ) → m ≤ y → y < n → p y ≡ false) → anyBelow p m ≡ anyBelow p n
+any-front p m n h f =
+    both-ways (anyBelow p m) (anyBelow p n)
+    (λ e. let k = any-some p m e in any-in p n (k .0) (omega (arith, k .1)) (k .2))
+    (λ e.
+    let k = any-some p n e in
+    cases (ltb (k .0) m)
+    (λ b. any-in p m (k .0) (ltb-true (k .0) m b) (k .2))
+    (λ b. never (k .2) (f (k .0) (ltb-false (k .0) m b) (k .1))))
 
 -- a to b and b to c
 past : (a b x : ℕ) → a ≤ b → either (ltb x a) (between a b x) ≡ ltb x b
@@ -184,18 +195,23 @@ module _ (h : Hall) (table : List ℕ) where
     within-split size s old x =
         fresh-at (λ y. either (onSwitches h table p size y) (onLevels h table p size s y)) (within h table p size s) old x (split size s x)
 
-  -- the sweeps of a round make the round
-  module _ (s size r : ℕ) (old room : List ℕ) (any : Bool) (fits : RoundFits h s size r old)
+  -- the sweeps of a round make the round, where nobody behind their places is reached
+  module _ (s size r : ℕ) (old room : List ℕ) (any : Bool) (fits : RoundFits h s size r old) (behind : Behind h s size old)
       (made : Sweep (within h table (reachedBy r old) size s) r old room any) where
+    leads-front : (x : ℕ) → anyBelow (leads (joined h table s) r old x) size ≡ anyBelow (leads (joined h table s) r old x) (t (h .n) s)
+    leads-front x =
+        any-front (leads (joined h table s) r old x) size (t (h .n) s) (fits .most)
+        (λ y l b. rw (behind y l b, lt-leb none r (omega (arith, fits .small))))
+
     new-is : (x : ℕ) → x < size → fresh (within h table (reachedBy r old) size s) old x ≡ new (joined h table s) size none r old x
     unfolding fresh new within
     new-is x l =
         cases (eqb (getD old x 0) none)
         (λ e.
         let z : reachedBy r old x ≡ false = rw (eqb-true (getD old x 0) none e) (lt-leb none r (omega (arith, fits .small))) in
-        let b : x < t (h .n) s = rw (fits .size-is) at l in
+        let b : x < t (h .n) s = omega (arith, fits .most) in
         let j = any-joined h table (omega (arith, fits .n-low)) (reachedBy r old) s x b z in
-        rw (e, lt-ltb x size l) (sym (ap (λ (k : ℕ). anyBelow (leads (joined h table s) r old x) k) (fits .size-is) ∙ j)))
+        rw (e, lt-ltb x size l) (sym (leads-front x ∙ j)))
         (λ e. rw e)
 
     outside : (x : ℕ) → size ≤ x → fresh (within h table (reachedBy r old) size s) old x ≡ false
@@ -221,7 +237,7 @@ module _ (h : Hall) (table : List ℕ) where
     pub round-made : room ≡ round (joined h table s) size none r old
     round-made =
         ext-getD {A = ℕ} 0 room (round (joined h table s) size none r old)
-        (made .long ∙ sym (length-round (joined h table s) size none r old (fits .inside)))
+        (made .long ∙ sym (length-round (joined h table s) size none r old (omega (arith, fits .most, fits .inside))))
         (λ x l. same-number x)
 
     pub any-made : any ≡ anyBelow (new (joined h table s) size none r old) size
@@ -235,23 +251,28 @@ module _ (h : Hall) (table : List ℕ) where
         (λ b. never (k .2) (outside (k .0) (ltb-false (k .0) size b))))
         (λ e.
         let k = any-some (new (joined h table s) size none r old) size e in
-        any-in (fresh (within h table (reachedBy r old) size s) old) (length old) (k .0) (omega (arith, k .1, fits .inside)) (new-is (k .0) (k .1) ∙ k .2))
+        any-in (fresh (within h table (reachedBy r old) size s) old) (length old) (k .0) (omega (arith, k .1, fits .most, fits .inside)) (new-is (k .0) (k .1) ∙ k .2))
 
 -- the numbers of the largest scope
 module _ (h : Hall) (s size r : ℕ) (room : List ℕ) (fits : RoundFits h s size r room) where
   pub scope-fits : size ≤ 5256
   unfolding t
-  scope-fits = rw (fits .size-is) (le-trans (t-more (h .n) 8 s (fits .n-high)) (t-up 8 s 2 (fits .scope-high)))
+  scope-fits = le-trans (fits .most) (le-trans (t-more (h .n) 8 s (fits .n-high)) (t-up 8 s 2 (fits .scope-high)))
+
+  pub size-inside : size ≤ length room
+  size-inside = le-trans (fits .most) (fits .inside)
 
   pub cell-fits : (j : ℕ) → j < s → t (h .n) j ≤ 72
   unfolding t
   cell-fits j l = le-trans (t-more (h .n) 8 j (fits .n-high)) (t-up 8 j 1 (omega (arith, fits .scope-high)))
 
-  pub neighbour-within : (j x : ℕ) → j < s → x < size → neighbour (h .n) j x < size
-  neighbour-within j x l b =
+  -- a neighbour is in the room, if behind the first `size` places
+  pub neighbour-inside : (j x : ℕ) → j < s → x < size → neighbour (h .n) j x < length room
+  neighbour-inside j x l b =
       let pos : 0 < h .n = omega (arith, fits .n-low) in
-      let c : x < t (h .n) s = rw (fits .size-is) at b in
-      rw (fits .size-is) (same-below (h .n) s x (neighbour (h .n) j x) pos (same-mono (h .n) {i = suc j} {j = s} x (neighbour (h .n) j x) l (neighbour-stays (h .n) pos j x)) c)
+      let c : x < t (h .n) s = omega (arith, fits .most) in
+      let d = same-below (h .n) s x (neighbour (h .n) j x) pos (same-mono (h .n) {i = suc j} {j = s} x (neighbour (h .n) j x) l (neighbour-stays (h .n) pos j x)) c in
+      omega (arith, fits .inside)
 
   -- the same room behind a sweep, and the next round
   pub fits-again : (other : List ℕ) → length other ≡ length room → RoundFits h s size r other
@@ -259,7 +280,8 @@ module _ (h : Hall) (s size r : ℕ) (room : List ℕ) (fits : RoundFits h s siz
     n-low = fits .n-low;
     n-high = fits .n-high;
     scope-high = fits .scope-high;
-    size-is = fits .size-is;
+    whole = fits .whole;
+    most = fits .most;
     inside = omega (arith, fits .inside, e);
     small = fits .small;
   }
@@ -269,7 +291,8 @@ module _ (h : Hall) (s size r : ℕ) (room : List ℕ) (fits : RoundFits h s siz
     n-low = fits .n-low;
     n-high = fits .n-high;
     scope-high = fits .scope-high;
-    size-is = fits .size-is;
+    whole = fits .whole;
+    most = fits .most;
     inside = omega (arith, fits .inside, e);
     small = l;
   }

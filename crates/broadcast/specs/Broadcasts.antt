@@ -1,5 +1,5 @@
 -- The rounds of a broadcast within a scope, and what the call answers and writes.
--- Sections "Broadcast" and "Refusal numbers".
+-- Sections "Broadcast" and "Refusal numbers"; request K5.
 use mathlib.Core.Bool.{Bool}
 use mathlib.Core.List.{List, [], _∷_, _++_}
 use Prim.Native.Nat.{ℕ, min, _+_, _*_, _%_}
@@ -12,6 +12,7 @@ use Rattle.hall.specs.Halls.{asksHall, asksUid}
 use Rattle.ports.specs.Links.{joined}
 use Rattle.ports.specs.Answers.{asksTable}
 use Rattle.search.specs.Rounds.{distances, reachedCount, lastRound}
+use Rattle.counted.specs.Counted.{counted}
 use Rattle.broadcast.specs.declared.Broadcast.{Broadcast}
 
 -- the number of a server that is not reached
@@ -42,6 +43,10 @@ linked h table source s y x = joined h table s (firstIn h source s + y) (firstIn
 unfoldable pub rounds : Hall → List ℕ → ℕ → ℕ → List ℕ
 rounds h table source s = distances (linked h table source s) (scopeSize h s) none (source % scopeSize h s)
 
+-- the rounds over the hall table as its codes count: no link of a server that is not fitted is usable
+abbrev pub roundsOf : Hall → List ℕ → ℕ → ℕ → List ℕ
+roundsOf h table source s = rounds h (counted h 0 table) source s
+
 abbrev pub asksScope : Hall → ℕ → Ask
 asksScope h s = (bad-address, scopeFits h s)
 
@@ -61,10 +66,10 @@ tallyOf size room = record { refusal = 0; reached = reachedCount none room size;
 abbrev pub broadcastOf : Hall → List ℕ → ℕ → ℕ → List ℕ → Broadcast
 broadcastOf h table source s room =
     answered (broadcastRefusal h table source s room)
-    (tallyOf (scopeSize h s) (rounds h table source s))
+    (tallyOf (scopeSize h s) (roundsOf h table source s))
     (λ number. record { refusal = number; reached = 0; last = 0 })
 
 -- the room at exit: the numbers from its start, the rest unchanged; as lent where refused
 abbrev pub roomOf : Hall → List ℕ → ℕ → ℕ → List ℕ → List ℕ
 roomOf h table source s room =
-    answered (broadcastRefusal h table source s room) (rounds h table source s ++ drop (scopeSize h s) room) (λ number. room)
+    answered (broadcastRefusal h table source s room) (roundsOf h table source s ++ drop (scopeSize h s) room) (λ number. room)

@@ -1,8 +1,8 @@
 -- How a round is worked out where the numbers stand: sweeps over the switches and over the links of each level, each of which reads
 -- who is reached before the round and gives the round's number to who is not.
--- Section "Broadcast".
+-- Section "Broadcast"; request K5.
 use mathlib.Core.Path.{_≡_}
-use mathlib.Core.Bool.{Bool, false}
+use mathlib.Core.Bool.{Bool, true, false}
 use mathlib.Core.List.{List}
 use Prim.Native.Nat.{ℕ, zero, suc, _+_, _-_, _*_, _/_, _%_, _≤_, _<_}
 use lib.Dec.{eqb, leb, ltb}
@@ -10,12 +10,18 @@ use lib.ListN.{length, getD, take}
 use Rattle.combine.specs.Tests.{pick, both, either, anyBelow}
 use Rattle.hall.specs.declared.Hall.{Hall}
 use Rattle.hall.specs.Cells.{t, subOver, neighbour}
-use Rattle.hall.specs.Halls.{most-n}
+use Rattle.hall.specs.Halls.{most-n, valid, servers}
 use Rattle.ports.specs.Codes.{up}
 use Rattle.ports.specs.Links.{bothUp, touched}
 use Rattle.search.specs.Rounds.{start}
 use Rattle.broadcast.specs.declared.places.Place.{Place}
-use Rattle.broadcast.specs.Broadcasts.{none}
+use Rattle.plan.specs.Answers.{fitted, fittedServers}
+use Rattle.broadcast.specs.Broadcasts.{none, highest, scopeFits, scopeSize}
+
+-- the places that the rounds go over, of those of the source's DCell(s): all within a DCell1, in a DCell2 those of its fitted servers, which are
+-- its first; none where the source is not fitted
+unfoldable pub fittedPlaces : Hall → ℕ → ℕ → ℕ
+fittedPlaces h source s = pick (fitted h source) (pick (ltb s highest) (scopeSize h s) (fittedServers h source)) 0
 
 -- y is reached before round r
 abbrev pub reachedBy : ℕ → List ℕ → ℕ → Bool
@@ -96,13 +102,21 @@ pub record SwitchFits (h : Hall) (s : ℕ) (room : List ℕ) : Type 0 where
   pub inside : s * h .n + h .n ≤ length room
   pub small : s * h .n + h .n ≤ 5256
 
--- a round of a hall's scope in a room
+-- a source of a hall, and the servers of its scope
+pub record Scoped (h : Hall) (source s size : ℕ) : Type 0 where
+  pub sound : valid h ≡ true
+  pub below : source < servers h
+  pub scope : scopeFits h s ≡ true
+  pub size-is : size ≡ scopeSize h s
+
+-- a round over the first `size` places of a hall's scope in a room, in whole switches
 pub record RoundFits (h : Hall) (s size r : ℕ) (room : List ℕ) : Type 0 where
   pub n-low : 2 ≤ h .n
   pub n-high : h .n ≤ most-n
   pub scope-high : s ≤ 2
-  pub size-is : size ≡ t (h .n) s
-  pub inside : size ≤ length room
+  pub whole : size / h .n * h .n ≡ size
+  pub most : size ≤ t (h .n) s
+  pub inside : t (h .n) s ≤ length room
   pub small : r < 5256
 
 -- the links of level j + 1 of such a room
@@ -112,8 +126,13 @@ pub record LinksFit (h : Hall) (size j cell r : ℕ) (room : List ℕ) : Type 0 
   pub below : j < scope
   pub cell-is : cell ≡ t (h .n) j
 
+-- nobody of a hall's scope behind the first `size` places is reached
+abbrev pub Behind : Hall → ℕ → ℕ → List ℕ → Type 0
+Behind h s size room = (y : ℕ) → size ≤ y → y < t (h .n) s → getD room y 0 ≡ none
+
 -- rounds are ready to run: the origin alone is reached
 pub record Ready (h : Hall) (s size origin : ℕ) (room : List ℕ) : Type 0 where
   pub fits : RoundFits h s size 0 room
   pub low : origin < size
   pub begun : take size room ≡ start size none origin
+  pub behind : Behind h s size room

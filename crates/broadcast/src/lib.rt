@@ -8,7 +8,7 @@ ghost use Prim.Native.Nat.{max, _+_, _*_, _%_, _≤_, _<_};
 ghost use lib.ListN.{length, take, drop, replicate};
 ghost use Rattle.ports.specs.Links.{joined};
 ghost use Rattle.search.specs.Rounds.{start, distances, reachedCount, lastRound};
-ghost use Rattle.broadcast.specs.Sweeps.{Ready};
+ghost use Rattle.broadcast.specs.Sweeps.{fittedPlaces, Scoped, Ready};
 ghost use Rattle.broadcast.specs.Broadcasts.{none, scopeFits, tallyOf, broadcastRefusal, broadcastOf, roomOf};
 use crate::sweeps::one_round;
 use hall::Hall;
@@ -52,6 +52,23 @@ fn refused(h: Hall, table: &[u8], source: u32, scope: u32, room: &[u16]) -> u32
     0
 }
 
+// How many places of the source's DCell the rounds go over: those of its fitted servers, which are its first; none where the source is not fitted.
+fn fitted_places(h: Hall, source: u32, scope: u32, size: u32) -> u32
+    requires { ⌜ Scoped h source scope size ⌝ }
+    ensures { λ r. ⌜ r ≡ fittedPlaces h source scope ⌝ }
+{
+    if h.count == hall::racks_of(h.n, h.k) {
+        return size;
+    }
+    if !plan::is_fitted(h, source) {
+        return 0;
+    }
+    if scope < 2 {
+        return size;
+    }
+    plan::fitted_servers(h, source)
+}
+
 // Nobody is reached.
 fn clear(room: &mut [u16], size: u32)
     requires { ⌜ size ≤ length (now room) ⌝ }
@@ -75,7 +92,7 @@ fn begin(room: &mut [u16], size: u32, origin: u32)
     room[at] = 0;
 }
 
-// Rounds from the origin on, until one reaches nobody.
+// Rounds from the origin on over the first `size` places, until one reaches nobody.
 fn run(h: Hall, table: &[u8], room: &mut [u16], scope: u32, size: u32, origin: u32)
     requires { ⌜ Ready h scope size origin (now room) ⌝ }
     ensures { λ _. ⌜ now (room .exit) ≡ distances (joined h (now (table .entry)) scope) size none origin ++ drop size (now (room .entry)) ⌝ }
@@ -148,7 +165,15 @@ pub fn broadcast_rounds(
     let from = ((source / size) as usize) * bytes;
     let to = from + bytes;
     let origin = source % size;
+    let count = fitted_places(h, source, scope, size);
     begin(room, size, origin);
-    run(h, &table[from..to], room, scope, size, origin);
-    tally(room, size)
+    if count == 0 {
+        return Broadcast {
+            refusal: 0,
+            reached: 1,
+            last: 0,
+        };
+    }
+    run(h, &table[from..to], room, scope, count, origin);
+    tally(room, count)
 }

@@ -162,7 +162,7 @@ fn over_levels(h: Hall, table: &[u8], room: &mut [u16], r: u16, size: u32, level
     any
 }
 
-// Round r: whoever is not reached and is joined to one who is reached before gets r + 1. Answers whether anybody does.
+// Round r: whoever of the first `size` places is not reached and is joined to one who is reached before gets r + 1. Answers whether anybody does.
 pub(crate) fn one_round(
     h: Hall,
     table: &[u8],

@@ -68,15 +68,16 @@ pub extern "C" fn calls_hall_line(
     n: u32,
     k: u32,
     b: u32,
+    count: u32,
     at: usize,
     room: &mut [u8],
     end: &mut usize,
 ) -> u32
-    ensures number { λ r. ⌜ r ≡ writtenOf (now (room .entry)) at (hallLine (hallOf n k b)) .refusal ⌝ }
-    ensures room { λ _. ⌜ now (room .exit) ≡ roomOf (now (room .entry)) at (hallLine (hallOf n k b)) ⌝ }
-    ensures end { λ _. ⌜ now (end .exit) ≡ endOf (writtenOf (now (room .entry)) at (hallLine (hallOf n k b))) (now (end .entry)) ⌝ }
+    ensures number { λ r. ⌜ r ≡ writtenOf (now (room .entry)) at (hallLine (hallOf n k b count)) .refusal ⌝ }
+    ensures room { λ _. ⌜ now (room .exit) ≡ roomOf (now (room .entry)) at (hallLine (hallOf n k b count)) ⌝ }
+    ensures end { λ _. ⌜ now (end .exit) ≡ endOf (writtenOf (now (room .entry)) at (hallLine (hallOf n k b count))) (now (end .entry)) ⌝ }
 {
-    tell_end(report::hall_line(room, at, Hall { n, k, b }), end)
+    tell_end(report::hall_line(room, at, Hall { n, k, b, count }), end)
 }
 
 #[no_mangle]

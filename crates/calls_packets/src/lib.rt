@@ -18,14 +18,15 @@ pub extern "C" fn calls_distances(
     n: u32,
     k: u32,
     b: u32,
+    count: u32,
     uid: u32,
     table: &[u8],
     room: &mut [u8],
 ) -> u32
-    ensures number { λ r. ⌜ r ≡ told (ofDistances (distancesOf (hallOf n k b) uid (now (table .entry)))) (now (room .entry)) ⌝ }
-    ensures room { λ _. ⌜ now (room .exit) ≡ written (ofDistances (distancesOf (hallOf n k b) uid (now (table .entry)))) (now (room .entry)) ⌝ }
+    ensures number { λ r. ⌜ r ≡ told (ofDistances (distancesOf (hallOf n k b count) uid (now (table .entry)))) (now (room .entry)) ⌝ }
+    ensures room { λ _. ⌜ now (room .exit) ≡ written (ofDistances (distancesOf (hallOf n k b count) uid (now (table .entry)))) (now (room .entry)) ⌝ }
 {
-    let a = local::distances_of(Hall { n, k, b }, uid, table);
+    let a = local::distances_of(Hall { n, k, b, count }, uid, table);
     let bytes = a.distance;
     tell_bytes(a.refusal, &bytes, room)
 }
@@ -35,14 +36,15 @@ pub extern "C" fn calls_distances_origin(
     n: u32,
     k: u32,
     b: u32,
+    count: u32,
     uid: u32,
     table: &[u8],
     room: &mut [u32],
 ) -> u32
-    ensures number { λ r. ⌜ r ≡ told (ofOrigin (distancesOf (hallOf n k b) uid (now (table .entry)))) (now (room .entry)) ⌝ }
-    ensures room { λ _. ⌜ now (room .exit) ≡ written (ofOrigin (distancesOf (hallOf n k b) uid (now (table .entry)))) (now (room .entry)) ⌝ }
+    ensures number { λ r. ⌜ r ≡ told (ofOrigin (distancesOf (hallOf n k b count) uid (now (table .entry)))) (now (room .entry)) ⌝ }
+    ensures room { λ _. ⌜ now (room .exit) ≡ written (ofOrigin (distancesOf (hallOf n k b count) uid (now (table .entry)))) (now (room .entry)) ⌝ }
 {
-    let a = local::distances_of(Hall { n, k, b }, uid, table);
+    let a = local::distances_of(Hall { n, k, b, count }, uid, table);
     let words = [a.origin, a.count];
     tell(a.refusal, &words, room)
 }
@@ -52,15 +54,16 @@ pub extern "C" fn calls_next_hop(
     n: u32,
     k: u32,
     b: u32,
+    count: u32,
     uid: u32,
     target: u32,
     table: &[u8],
     room: &mut [u32],
 ) -> u32
-    ensures number { λ r. ⌜ r ≡ told (ofNextHop (nextHopOf (hallOf n k b) uid target (now (table .entry)))) (now (room .entry)) ⌝ }
-    ensures room { λ _. ⌜ now (room .exit) ≡ written (ofNextHop (nextHopOf (hallOf n k b) uid target (now (table .entry)))) (now (room .entry)) ⌝ }
+    ensures number { λ r. ⌜ r ≡ told (ofNextHop (nextHopOf (hallOf n k b count) uid target (now (table .entry)))) (now (room .entry)) ⌝ }
+    ensures room { λ _. ⌜ now (room .exit) ≡ written (ofNextHop (nextHopOf (hallOf n k b count) uid target (now (table .entry)))) (now (room .entry)) ⌝ }
 {
-    let a = local::next_hop(Hall { n, k, b }, uid, target, table);
+    let a = local::next_hop(Hall { n, k, b, count }, uid, target, table);
     let words = [a.found, a.uid];
     tell(a.refusal, &words, room)
 }
@@ -88,17 +91,18 @@ pub extern "C" fn calls_broadcast(
     n: u32,
     k: u32,
     b: u32,
+    count: u32,
     table: &[u8],
     source: u32,
     scope: u32,
     rounds: &mut [u16],
     room: &mut [u32],
 ) -> u32
-    ensures number { λ r. ⌜ r ≡ told (ofBroadcast (broadcastOf (hallOf n k b) (now (table .entry)) source scope (now (rounds .entry)))) (now (room .entry)) ⌝ }
-    ensures rounds { λ _. ⌜ now (rounds .exit) ≡ roundsTold (hallOf n k b) (now (table .entry)) source scope (now (rounds .entry)) (now (room .entry)) ⌝ }
-    ensures room { λ _. ⌜ now (room .exit) ≡ written (ofBroadcast (broadcastOf (hallOf n k b) (now (table .entry)) source scope (now (rounds .entry)))) (now (room .entry)) ⌝ }
+    ensures number { λ r. ⌜ r ≡ told (ofBroadcast (broadcastOf (hallOf n k b count) (now (table .entry)) source scope (now (rounds .entry)))) (now (room .entry)) ⌝ }
+    ensures rounds { λ _. ⌜ now (rounds .exit) ≡ roundsTold (hallOf n k b count) (now (table .entry)) source scope (now (rounds .entry)) (now (room .entry)) ⌝ }
+    ensures room { λ _. ⌜ now (room .exit) ≡ written (ofBroadcast (broadcastOf (hallOf n k b count) (now (table .entry)) source scope (now (rounds .entry)))) (now (room .entry)) ⌝ }
 {
-    let h = Hall { n, k, b };
+    let h = Hall { n, k, b, count };
     if room.len() < 2 {
         return broadcast::broadcast_rounds(h, table, source, scope, &mut rounds[0..0]).refusal;
     }
@@ -112,6 +116,7 @@ pub extern "C" fn calls_journey(
     n: u32,
     k: u32,
     b: u32,
+    count: u32,
     source: u32,
     dst: u32,
     has_proxy: u32,
@@ -121,8 +126,8 @@ pub extern "C" fn calls_journey(
     table: &[u8],
     room: &mut [u32],
 ) -> u32
-    ensures number { λ r. ⌜ r ≡ told (ofPassed (journeyOf (hallOf n k b) source (packetOf dst «has_proxy» proxy retry ttl) (now (table .entry)))) (now (room .entry)) ⌝ }
-    ensures room { λ _. ⌜ now (room .exit) ≡ written (ofPassed (journeyOf (hallOf n k b) source (packetOf dst «has_proxy» proxy retry ttl) (now (table .entry)))) (now (room .entry)) ⌝ }
+    ensures number { λ r. ⌜ r ≡ told (ofPassed (journeyOf (hallOf n k b count) source (packetOf dst «has_proxy» proxy retry ttl) (now (table .entry)))) (now (room .entry)) ⌝ }
+    ensures room { λ _. ⌜ now (room .exit) ≡ written (ofPassed (journeyOf (hallOf n k b count) source (packetOf dst «has_proxy» proxy retry ttl) (now (table .entry)))) (now (room .entry)) ⌝ }
 {
     let packet = Packet {
         dst,
@@ -131,7 +136,7 @@ pub extern "C" fn calls_journey(
         retry,
         ttl,
     };
-    let a = forward::journey_of(Hall { n, k, b }, source, packet, table);
+    let a = forward::journey_of(Hall { n, k, b, count }, source, packet, table);
     let words = a.uids;
     tell(a.refusal, &words, room)
 }
@@ -141,6 +146,7 @@ pub extern "C" fn calls_journey_counts(
     n: u32,
     k: u32,
     b: u32,
+    count: u32,
     source: u32,
     dst: u32,
     has_proxy: u32,
@@ -150,8 +156,8 @@ pub extern "C" fn calls_journey_counts(
     table: &[u8],
     room: &mut [u32],
 ) -> u32
-    ensures number { λ r. ⌜ r ≡ told (ofCounts (journeyOf (hallOf n k b) source (packetOf dst «has_proxy» proxy retry ttl) (now (table .entry)))) (now (room .entry)) ⌝ }
-    ensures room { λ _. ⌜ now (room .exit) ≡ written (ofCounts (journeyOf (hallOf n k b) source (packetOf dst «has_proxy» proxy retry ttl) (now (table .entry)))) (now (room .entry)) ⌝ }
+    ensures number { λ r. ⌜ r ≡ told (ofCounts (journeyOf (hallOf n k b count) source (packetOf dst «has_proxy» proxy retry ttl) (now (table .entry)))) (now (room .entry)) ⌝ }
+    ensures room { λ _. ⌜ now (room .exit) ≡ written (ofCounts (journeyOf (hallOf n k b count) source (packetOf dst «has_proxy» proxy retry ttl) (now (table .entry)))) (now (room .entry)) ⌝ }
 {
     let packet = Packet {
         dst,
@@ -160,7 +166,7 @@ pub extern "C" fn calls_journey_counts(
         retry,
         ttl,
     };
-    let a = forward::journey_of(Hall { n, k, b }, source, packet, table);
+    let a = forward::journey_of(Hall { n, k, b, count }, source, packet, table);
     let words = [a.ending, a.links, a.reroutes];
     tell(a.refusal, &words, room)
 }

@@ -38,19 +38,27 @@ pub extern "C" fn calls_b_fits(k: u32, b: u32) -> bool
 }
 
 #[no_mangle]
-pub extern "C" fn calls_servers(n: u32, k: u32, b: u32) -> u32
-    ensures { λ r. ⌜ r ≡ pick (valid (hallOf n k b)) (servers (hallOf n k b)) 0 ⌝ }
+pub extern "C" fn calls_servers(n: u32, k: u32, b: u32, count: u32) -> u32
+    ensures { λ r. ⌜ r ≡ pick (valid (hallOf n k b count)) (servers (hallOf n k b count)) 0 ⌝ }
 {
-    hall::servers_of(Hall { n, k, b })
+    hall::servers_of(Hall { n, k, b, count })
 }
 
 // Zeros where there is no such link.
 #[no_mangle]
-pub extern "C" fn calls_first_link(n: u32, k: u32, b: u32, x: u32, y: u32, room: &mut [u32]) -> u32
-    ensures number { λ r. ⌜ r ≡ told (ofFirstLink (firstLinkOf (hallOf n k b) x y)) (now (room .entry)) ⌝ }
-    ensures room { λ _. ⌜ now (room .exit) ≡ written (ofFirstLink (firstLinkOf (hallOf n k b) x y)) (now (room .entry)) ⌝ }
+pub extern "C" fn calls_first_link(
+    n: u32,
+    k: u32,
+    b: u32,
+    count: u32,
+    x: u32,
+    y: u32,
+    room: &mut [u32],
+) -> u32
+    ensures number { λ r. ⌜ r ≡ told (ofFirstLink (firstLinkOf (hallOf n k b count) x y)) (now (room .entry)) ⌝ }
+    ensures room { λ _. ⌜ now (room .exit) ≡ written (ofFirstLink (firstLinkOf (hallOf n k b count) x y)) (now (room .entry)) ⌝ }
 {
-    let a = route::first_link(Hall { n, k, b }, x, y);
+    let a = route::first_link(Hall { n, k, b, count }, x, y);
     let link = a.link;
     match link {
         Crossing::Nothing => {
@@ -65,10 +73,18 @@ pub extern "C" fn calls_first_link(n: u32, k: u32, b: u32, x: u32, y: u32, room:
 }
 
 #[no_mangle]
-pub extern "C" fn calls_is_up(n: u32, k: u32, b: u32, table: &[u8], server: u32, port: u32) -> bool
-    ensures { λ r. ⌜ r ≡ up (hallOf n k b) (now (table .entry)) server port ⌝ }
+pub extern "C" fn calls_is_up(
+    n: u32,
+    k: u32,
+    b: u32,
+    count: u32,
+    table: &[u8],
+    server: u32,
+    port: u32,
+) -> bool
+    ensures { λ r. ⌜ r ≡ up (hallOf n k b count) (now (table .entry)) server port ⌝ }
 {
-    ports::is_up(Hall { n, k, b }, table, server, port)
+    ports::is_up(Hall { n, k, b, count }, table, server, port)
 }
 
 #[no_mangle]

@@ -10,7 +10,7 @@ use Rattle.sheetparts.specs.Parts.{codesOf}
 
 -- the hall and the number of packets; the place is told by a number of its own
 abbrev pub ofSheet : Sheet → Outcome
-ofSheet a = (a .refusal, a .hall .n ∷ a .hall .k ∷ a .hall .b ∷ a .packets ∷ [])
+ofSheet a = (a .refusal, a .hall .n ∷ a .hall .k ∷ a .hall .b ∷ a .hall .count ∷ a .packets ∷ [])
 
 -- the codes of a sheet
 abbrev pub ofCodes : List ℕ → Outcome

@@ -13,7 +13,7 @@ pub extern "C" fn calls_sheet(sheet: &[u8], room: &mut [u32]) -> u32
     ensures room { λ _. ⌜ now (room .exit) ≡ written (ofSheet (sheetOf (now (sheet .entry)))) (now (room .entry)) ⌝ }
 {
     let a = sheet::read_sheet(sheet);
-    let words = [a.hall.n, a.hall.k, a.hall.b, a.packets];
+    let words = [a.hall.n, a.hall.k, a.hall.b, a.hall.count, a.packets];
     tell(a.refusal, &words, room)
 }
 

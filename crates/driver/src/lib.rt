@@ -33,11 +33,19 @@ fn tell(number: u32, words: &[u32], room: &mut [u8]) -> u32
 
 // The route from x to y: its links + 1 uids.
 #[no_mangle]
-pub extern "C" fn tbexlum_route(n: u32, k: u32, b: u32, x: u32, y: u32, room: &mut [u8]) -> u32
-    ensures number { λ r. ⌜ r ≡ told (ofRoute (routeBetween (hallOf n k b) x y)) (now (room .entry)) ⌝ }
-    ensures room { λ _. ⌜ now (room .exit) ≡ written (ofRoute (routeBetween (hallOf n k b) x y)) (now (room .entry)) ⌝ }
+pub extern "C" fn tbexlum_route(
+    n: u32,
+    k: u32,
+    b: u32,
+    count: u32,
+    x: u32,
+    y: u32,
+    room: &mut [u8],
+) -> u32
+    ensures number { λ r. ⌜ r ≡ told (ofRoute (routeBetween (hallOf n k b count) x y)) (now (room .entry)) ⌝ }
+    ensures room { λ _. ⌜ now (room .exit) ≡ written (ofRoute (routeBetween (hallOf n k b count) x y)) (now (room .entry)) ⌝ }
 {
-    let a = route::route_between(Hall { n, k, b }, x, y);
+    let a = route::route_between(Hall { n, k, b, count }, x, y);
     let uids = a.uids;
     let count = (a.links as usize) + 1;
     tell(a.refusal, &uids[..count], room)
@@ -128,14 +136,15 @@ pub extern "C" fn tbexlum_step_table(
     n: u32,
     k: u32,
     b: u32,
+    count: u32,
     table: &[u8],
     uid: u32,
     room: &mut [u8],
 ) -> u32
-    ensures number { λ r. ⌜ r ≡ told (ofStepTable (hallOf n k b) (now (table .entry)) uid) (now (room .entry)) ⌝ }
-    ensures room { λ _. ⌜ now (room .exit) ≡ written (ofStepTable (hallOf n k b) (now (table .entry)) uid) (now (room .entry)) ⌝ }
+    ensures number { λ r. ⌜ r ≡ told (ofStepTable (hallOf n k b count) (now (table .entry)) uid) (now (room .entry)) ⌝ }
+    ensures room { λ _. ⌜ now (room .exit) ≡ written (ofStepTable (hallOf n k b count) (now (table .entry)) uid) (now (room .entry)) ⌝ }
 {
-    ends::step_table(Hall { n, k, b }, table, uid, room)
+    ends::step_table(Hall { n, k, b, count }, table, uid, room)
 }
 
 // One forwarding step at a server, over the table that it is lent; `has_proxy` is 0 where there is no proxy.
@@ -144,6 +153,7 @@ pub extern "C" fn tbexlum_step(
     n: u32,
     k: u32,
     b: u32,
+    count: u32,
     uid: u32,
     dst: u32,
     has_proxy: u32,
@@ -153,8 +163,8 @@ pub extern "C" fn tbexlum_step(
     table: &[u8],
     room: &mut [u8],
 ) -> u32
-    ensures number { λ r. ⌜ r ≡ told (ofStep (stepOf (hallOf n k b) uid (packetOf dst «has_proxy» proxy retry ttl) (now (table .entry)))) (now (room .entry)) ⌝ }
-    ensures room { λ _. ⌜ now (room .exit) ≡ written (ofStep (stepOf (hallOf n k b) uid (packetOf dst «has_proxy» proxy retry ttl) (now (table .entry)))) (now (room .entry)) ⌝ }
+    ensures number { λ r. ⌜ r ≡ told (ofStep (stepOf (hallOf n k b count) uid (packetOf dst «has_proxy» proxy retry ttl) (now (table .entry)))) (now (room .entry)) ⌝ }
+    ensures room { λ _. ⌜ now (room .exit) ≡ written (ofStep (stepOf (hallOf n k b count) uid (packetOf dst «has_proxy» proxy retry ttl) (now (table .entry)))) (now (room .entry)) ⌝ }
 {
     let packet = Packet {
         dst,
@@ -163,7 +173,7 @@ pub extern "C" fn tbexlum_step(
         retry,
         ttl,
     };
-    let a = forward::forward_step(Hall { n, k, b }, uid, packet, table);
+    let a = forward::forward_step(Hall { n, k, b, count }, uid, packet, table);
     let p = a.packet;
     let flagged = flag(p.has_proxy);
     let left = wide(p.retry);

@@ -1,4 +1,4 @@
--- What the call answers: a refusal, a short room, or the part with the far codes behind it.
+-- What the call answers: a refusal, a short room, or the part with the far codes behind it, of the hall table as its codes count.
 use mathlib.Core.Path.{_≡_, sym, _∙_, ap}
 use mathlib.Core.List.{List, _++_}
 use Prim.Native.Nat.{ℕ, _+_, _-_, _≤_, _<_}
@@ -17,6 +17,8 @@ use Rattle.ports.specs.Codes.{cellLength, part}
 use Rattle.ports.specs.Answers.{partRefusal, partOf}
 use Rattle.ports.proofs.Parts.{Sound, sound}
 use Rattle.ports.proofs.Runs.{length-run}
+use Rattle.counted.specs.Counted.{counted}
+use Rattle.counted.proofs.Counted.{counted-length}
 use Rattle.ends.specs.Tables.{farCount, stepLength, farAt, stepTable}
 use Rattle.ends.specs.Answers.{ofStepTable}
 
@@ -33,6 +35,10 @@ one-behind room a b l =
     ∙ sym (room-long room 0 (a ++ b) k)
     ∙ room-start room (a ++ b) m
 
+-- a hall table as its codes count is as sound
+pub counted-sound : (h : Hall) (table : List ℕ) (u : ℕ) → Sound h table u → Sound h (counted h 0 table) u
+counted-sound h table u s = record { is-valid = s .is-valid; long = counted-length h 0 table ∙ s .long; below = s .below }
+
 module _ (h : Hall) (table : List ℕ) (u : ℕ) where
   -- the length of a step's table
   pub part-length : Sound h table u → length (part h table u) ≡ cellLength h (h .b)
@@ -44,6 +50,18 @@ module _ (h : Hall) (table : List ℕ) (u : ℕ) where
       length-append (part h table u) (upTo (farAt h table u) (farCount h))
       ∙ omega (arith, part-length s, length-upTo (farAt h table u) (farCount h))
 
+  -- the part first, and the far codes behind it
+  pub table-plain : Sound h table u → (room : List ℕ) → stepLength h ≤ length room → (near : List ℕ) → near ≡ part h table u
+      → put (roomOf room 0 near) (length near) (upTo (farAt h table u) (farCount h)) ≡ stepTable h table u ++ drop (length (stepTable h table u)) room
+  unfolding stepTable stepLength
+  table-plain s room l near q =
+      let w : length (part h table u) + length (upTo (farAt h table u) (farCount h)) ≤ length room =
+      omega (arith, part-length s, length-upTo (farAt h table u) (farCount h)) in
+      ap (λ (x : List ℕ). put (roomOf room 0 x) (length x) (upTo (farAt h table u) (farCount h))) q
+      ∙ one-behind room (part h table u) (upTo (farAt h table u) (farCount h)) w
+
+-- by the refusal of the part
+module _ (h : Hall) (table : List ℕ) (u : ℕ) where
   module _ (r : ℕ) (e : r ≡ partRefusal h table u) (room : List ℕ) where
     pub table-refused : (r ≡ 0 → ⊥) → (r ≡ told (ofStepTable h table u) room) × (room ≡ written (ofStepTable h table u) room)
     table-refused d =
@@ -63,11 +81,11 @@ module _ (h : Hall) (table : List ℕ) (u : ℕ) where
       pub part-is : partOf h table u ≡ part h table u
       part-is = rw (eq-eqb (partRefusal h table u) 0 none)
 
-      table-is : ofStepTable h table u .1 ≡ stepTable h table u
+      table-is : ofStepTable h table u .1 ≡ stepTable h (counted h 0 table) u
       table-is = rw (eq-eqb (partRefusal h table u) 0 none)
 
       long : length (ofStepTable h table u .1) ≡ stepLength h
-      long = ap length table-is ∙ length-step part-sound
+      long = ap length table-is ∙ length-step h (counted h 0 table) u (counted-sound h table u part-sound)
 
       pub table-short : length room < stepLength h → (6 ≡ told (ofStepTable h table u) room) × (room ≡ written (ofStepTable h table u) room)
       table-short l =
@@ -79,15 +97,9 @@ module _ (h : Hall) (table : List ℕ) (u : ℕ) where
       pub table-told : stepLength h ≤ length room → 0 ≡ told (ofStepTable h table u) room
       table-told l = sym (told-good (partRefusal h table u) (ofStepTable h table u .1) room none (omega (arith, long)))
 
-      -- the part first, and the far codes behind it
-      pub table-written : stepLength h ≤ length room → (near : List ℕ) → near ≡ part h table u
-          → put (roomOf room 0 near) (length near) (upTo (farAt h table u) (farCount h)) ≡ written (ofStepTable h table u) room
-      unfolding stepTable stepLength
-      table-written l near q =
+      -- the table at the start of the room
+      pub table-written : stepLength h ≤ length room → (bytes : List ℕ) → bytes ≡ stepTable h (counted h 0 table) u
+          → bytes ++ drop (length bytes) room ≡ written (ofStepTable h table u) room
+      table-written l bytes q =
           let k : length (ofStepTable h table u .1) ≤ length room = omega (arith, long) in
-          let w : length (part h table u) + length (upTo (farAt h table u) (farCount h)) ≤ length room =
-          omega (arith, part-length part-sound, length-upTo (farAt h table u) (farCount h)) in
-          ap (λ (s : List ℕ). put (roomOf room 0 s) (length s) (upTo (farAt h table u) (farCount h))) q
-          ∙ one-behind room (part h table u) (upTo (farAt h table u) (farCount h)) w
-          ∙ ap (λ (s : List ℕ). s ++ drop (length s) room) (sym table-is)
-          ∙ written-good (partRefusal h table u) (ofStepTable h table u .1) room none k
+          ap (λ (s : List ℕ). s ++ drop (length s) room) (q ∙ sym table-is) ∙ written-good (partRefusal h table u) (ofStepTable h table u .1) room none k

@@ -49,7 +49,7 @@ module _ (n j u p : ℕ) (s : same n j u (u + p) ≡ true) where
       (λ k. rw k (omega arith)))))
 
 -- where there is a far code, there is a level above b
-some-factor : (a b q : ℕ) → q < a * b → 0 < b
+pub some-factor : (a b q : ℕ) → q < a * b → 0 < b
 some-factor a zero q l = absurd (omega arith)
 some-factor a (suc b) q l = omega arith
 

@@ -98,7 +98,7 @@ module _ (room : List ℕ) (at : ℕ) (bytes : List ℕ) (w : at + length bytes 
       ∙ List·getD-append {A = ℕ} (take at room) bytes 0 i a
       ∙ getD-take {A = ℕ} at room i 0 l
 
-  put-behind : (i : ℕ) → at + length bytes ≤ i → getD (put room at bytes) i 0 ≡ getD room i 0
+  pub put-behind : (i : ℕ) → at + length bytes ≤ i → getD (put room at bytes) i 0 ≡ getD room i 0
   unfolding put
   put-behind i l =
       let n : length (take at room ++ bytes) ≡ at + length bytes = omega (arith, head-long, length-append (take at room) bytes) in

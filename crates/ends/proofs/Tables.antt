@@ -82,7 +82,7 @@ same-bytes h a b me p q =
     q (i / levels h) (suc (h .b) + i % levels h) (div-lt-iff-lt-mul w .1 l) (omega arith) (omega arith))))
 
 -- tables with code 1 at the same places, one behind the other
-append-agrees : (a b c d : List ℕ) → length a ≡ length b → SameUps a b → SameUps c d → SameUps (a ++ c) (b ++ d)
+pub append-agrees : (a b c d : List ℕ) → length a ≡ length b → SameUps a b → SameUps c d → SameUps (a ++ c) (b ++ d)
 unfolding SameUps
 append-agrees a b c d e s z v =
     cases (ltb v (length a))

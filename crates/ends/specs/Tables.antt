@@ -1,14 +1,14 @@
 -- The table that a step is lent: the part of its server's DCell(b), and behind it the far port's code for each server of the cell in uid order
 -- and each level from b+1 to k.
--- Section "Port codes"; request K3.
+-- Section "Port codes"; requests K3 and K5.
 use mathlib.Core.List.{List, _++_}
 use Prim.Native.Nat.{ℕ, suc, _+_, _-_, _*_, _/_, _%_}
-use lib.ListN.{getD, take}
+use lib.ListN.{getD, take, drop}
 use Rattle.combine.specs.Lists.{upTo}
 use Rattle.hall.specs.declared.Hall.{Hall}
 use Rattle.hall.specs.Cells.{neighbour}
 use Rattle.ports.specs.Codes.{not-fitted, codeOf, cellLength, part}
-use Rattle.local.specs.Local.{cellSize, firstOf}
+use Rattle.local.specs.Local.{cellSize, firstOf, counting}
 
 -- the levels from b+1 to k
 abbrev pub levels : Hall → ℕ
@@ -43,3 +43,7 @@ farPlace h place i = cellLength h (h .b) + (place * levels h + (i - suc (h .b)))
 
 unfoldable pub farIn : Hall → List ℕ → ℕ → ℕ → ℕ
 farIn h lent place i = getD lent (farPlace h place i) not-fitted
+
+-- the table that a step is lent, as its codes count: of the near codes alone, since the two ports of a link have the same two servers
+unfoldable pub lentCounted : Hall → ℕ → List ℕ → List ℕ
+lentCounted h me lent = counting h me (cellPart h lent) ++ drop (cellLength h (h .b)) lent

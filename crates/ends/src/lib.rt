@@ -1,20 +1,27 @@
-// The table that a step is lent: the codes of its server's DCell(b), and behind them the far port's code of each link above it.
+// The table that a step is lent: the codes of its server's DCell(b), and behind them the far port's code of each link above it, each as
+// it counts in the hall.
 ghost use mathlib.Core.Path.{_≡_};
 ghost use mathlib.Core.Bool.{true};
-ghost use Prim.Native.Nat.{_+_, _≤_, _<_};
+ghost use Prim.Native.Nat.{_+_, _*_, _≤_, _<_};
 ghost use lib.ListN.{length};
+ghost use Rattle.combine.specs.Tests.{pick};
 ghost use Rattle.combine.specs.Lists.{upTo};
 ghost use Rattle.hall.specs.Halls.{valid, servers};
 ghost use Rattle.hall.specs.Rooms.{told, written};
 ghost use Rattle.words.specs.Rooms.{put};
-ghost use Rattle.ports.specs.Codes.{codeOf};
+ghost use Rattle.ports.specs.Codes.{not-fitted, codeOf, cellLength};
+ghost use Rattle.plan.specs.Answers.{fitted};
+ghost use Rattle.counted.specs.Counted.{portFitted};
 ghost use Rattle.local.specs.Local.{cellSize, firstOf};
-ghost use Rattle.ends.specs.Tables.{levels, farCount, farCode, farAt};
-ghost use Rattle.ends.specs.Filling.{farBehind, spread};
+ghost use Rattle.ends.specs.Tables.{levels, farCount, stepLength, farCode, farAt};
+ghost use Rattle.ends.specs.Filling.{farBehind, spread, runCounted, tableCounted};
 ghost use Rattle.ends.specs.Answers.{ofStepTable};
 use hall::Hall;
 use hall::refusals::SHORT_ROOM;
 use words::put_bytes;
+
+// The code of a port that is not fitted.
+const NOT_FITTED: u8 = 0;
 
 // The code of a server's port in a hall table.
 fn code_at(h: Hall, table: &[u8], server: u32, port: u32) -> u8
@@ -25,7 +32,7 @@ fn code_at(h: Hall, table: &[u8], server: u32, port: u32) -> u8
     if at < table.len() {
         return table[at];
     }
-    0
+    NOT_FITTED
 }
 
 // The neighbour of the server so many places behind one whose neighbour is `far`: both are in sub-cell `sub`, the first of them at place
@@ -78,6 +85,50 @@ fn put_far(h: Hall, table: &[u8], uid: u32, room: &mut [u8], at: usize)
     }
 }
 
+// A code as it counts: NOT_FITTED where the port's own server, which `here` tells of, or its far server is not fitted. The ports 0 and 1 lead to no
+// other DCell1, and a DCell1 is fitted as a whole.
+fn code_counted(h: Hall, here: bool, uid: u32, port: u32, code: u8) -> u8
+    requires { ⌜ (valid h ≡ true) × (uid < servers h) × (port ≤ h .k) × (here ≡ fitted h uid) ⌝ }
+    ensures { λ r. ⌜ r ≡ pick (portFitted h uid port) code not-fitted ⌝ }
+{
+    if !here {
+        return NOT_FITTED;
+    }
+    if port < 2 {
+        return code;
+    }
+    if !plan::is_fitted(h, cells::neighbour_of(h, uid, port).uid) {
+        return NOT_FITTED;
+    }
+    code
+}
+
+// Makes the codes of a run in the room as they count: those of each server of a DCell(b), for so many ports from `lowest` on.
+fn count_run(h: Hall, uid: u32, lowest: u32, ports: u32, room: &mut [u8], at: usize)
+    requires { ⌜ (valid h ≡ true) × (uid < servers h) × (lowest + ports ≤ h .k + 1) × (at + cellSize h * ports ≤ length (now room)) ⌝ }
+    ensures { λ _. ⌜ now (room .exit) ≡ runCounted h uid lowest ports (now (room .entry)) at ⌝ }
+{
+    let here = plan::is_fitted(h, uid);
+    let count = hall::size_of(h, h.b);
+    let first = uid / count * count;
+    let all = count * ports;
+    let mut q: u32 = 0;
+    while q < all {
+        let next = at + (q as usize);
+        room[next] = code_counted(h, here, first + q / ports, lowest + q % ports, room[next]);
+        q += 1;
+    }
+}
+
+// Makes the codes of a step's table in the room as they count: those of the part, and the far codes behind the first `near` bytes.
+fn count_codes(h: Hall, uid: u32, room: &mut [u8], near: usize)
+    requires { ⌜ (valid h ≡ true) × (uid < servers h) × (near ≡ cellLength h (h .b)) × (stepLength h ≤ length (now room)) ⌝ }
+    ensures { λ _. ⌜ now (room .exit) ≡ tableCounted h uid (now (room .entry)) ⌝ }
+{
+    count_run(h, uid, 0, h.k + 1, room, 0);
+    count_run(h, uid, h.b + 1, h.k - h.b, room, near);
+}
+
 // Writes the table that a server's step is lent to the start of the room and answers 0; or answers a refusal and leaves the room as lent.
 pub fn step_table(h: Hall, table: &[u8], uid: u32, room: &mut [u8]) -> u32
     ensures number { λ r. ⌜ r ≡ told (ofStepTable h (now (table .entry)) uid) (now (room .entry)) ⌝ }
@@ -95,5 +146,9 @@ pub fn step_table(h: Hall, table: &[u8], uid: u32, room: &mut [u8]) -> u32
     }
     put_bytes(room, 0, part);
     put_far(h, table, uid, room, near);
+    if h.count == hall::racks_of(h.n, h.k) {
+        return 0;
+    }
+    count_codes(h, uid, room, near);
     0
 }

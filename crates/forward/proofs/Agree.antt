@@ -10,15 +10,16 @@ use lib.ListN.{length, getD}
 use Rattle.combine.specs.Tests.{pick}
 use Rattle.combine.proofs.Tests.{cases}
 use Rattle.hall.specs.declared.Hall.{Hall}
-use Rattle.ports.specs.Codes.{cellLength, part, SameUps}
+use Rattle.ports.specs.Codes.{cellLength, SameUps}
 use Rattle.ports.proofs.Tables.{up-agrees}
 use Rattle.ports.proofs.Links.{joined-agrees}
 use Rattle.ports.proofs.Runs.{take-agrees}
 use Rattle.search.specs.Rounds.{distances}
 use Rattle.local.specs.Lowest.{lowestFrom}
-use Rattle.local.specs.Local.{none, cellSize, firstOf, linked, distancesFrom, distance, nearer, hop}
-use Rattle.ends.specs.Tables.{farCode, stepTable, cellPart, farPlace, farIn}
-use Rattle.ends.proofs.Tables.{same-bytes, step-ups}
+use Rattle.local.specs.Local.{none, cellSize, linked, distancesFrom, distance, nearer, hop}
+use Rattle.ends.specs.Tables.{stepTable, cellPart, farPlace, farIn, lentCounted}
+use Rattle.ends.proofs.Tables.{step-ups}
+use Rattle.ends.proofs.Lent.{lent-ups}
 use Rattle.forward.specs.declared.Packet.{Packet}
 use Rattle.forward.specs.declared.Step.{Step}
 use Rattle.forward.specs.Packets.{forwarded, tidied}
@@ -93,13 +94,11 @@ module _ (f g : ℕ → Packet → Step) (I : ℕ → Packet → Type 0) (agree 
       (λ e. rw e (ap (goesOn me (g me p)) (trip-on-same ttl (g me p .next) (g me p .packet) (keeps me p i (eqb-true (g me p .ending) forwarded e)))))
       (λ e. rw e)
 
--- two hall tables that agree on the bytes of a server's table give it the same step; so do two that are up at the same of them
-pub same-step : (h : Hall) (a b : List ℕ) (me : ℕ) (p : Packet) → part h a me ≡ part h b me
-    → ((place i : ℕ) → place < cellSize h → h .b < i → i ≤ h .k → farCode h a (firstOf h me + place) i ≡ farCode h b (firstOf h me + place) i)
-    → stepAt h a me p ≡ stepAt h b me p
-same-step h a b me p near far = ap (λ (l : List ℕ). step h l me p) (same-bytes h a b me near far)
+-- tables that are lent with code 1 at the same places give the same step, as their codes count
+pub lent-agrees : (h : Hall) (me : ℕ) (a b : List ℕ) (p : Packet) → length a ≡ length b → SameUps a b → step h (lentCounted h me a) me p ≡ step h (lentCounted h me b) me p
+lent-agrees h me a b p e s = step-agrees h (lentCounted h me a) (lentCounted h me b) (lent-ups h me a b e s) me p
 
-pub same-ups-step : (h : Hall) (a b : List ℕ) (me : ℕ) (p : Packet) → SameUps (stepTable h a me) (stepTable h b me) → stepAt h a me p ≡ stepAt h b me p
+same-ups-step : (h : Hall) (a b : List ℕ) (me : ℕ) (p : Packet) → SameUps (stepTable h a me) (stepTable h b me) → stepAt h a me p ≡ stepAt h b me p
 same-ups-step h a b me p same = step-agrees h (stepTable h a me) (stepTable h b me) same me p
 
 pub trip-agrees : (h : Hall) (a b : List ℕ) → length a ≡ length b → SameUps a b → (me : ℕ) (p : Packet) → trip h a me p ≡ trip h b me p

@@ -21,7 +21,7 @@ use Rattle.forward.specs.declared.Packet.{Packet}
 use Rattle.forward.specs.declared.Step.{Step}
 use Rattle.forward.specs.declared.Candidate.{Candidate}
 use Rattle.forward.specs.declared.Candidate.the-variants as candidate
-use Rattle.forward.specs.Packets.{drop-route, cleared, proxied, retried, goal, sent, ended, counted}
+use Rattle.forward.specs.Packets.{drop-route, cleared, proxied, retried, goal, sent, ended, oneMore}
 use Rattle.forward.specs.Seen.{Seen}
 use Rattle.forward.specs.Proxies.{isCandidate, nearerOf, bestBelow, orElse, firstFound, choice}
 use Rattle.forward.specs.Steps.{Reroute, reachable, across, from4, setProxy, firstLevel, rerouteOn, stepFrom, stepOn}
@@ -107,14 +107,14 @@ module _ (h : Hall) (is-valid : valid h ≡ true) (me : ℕ) (here : me < server
 
       set-same : (p : Packet) (c : Candidate) → setProxy h s me came r p c ≡ setProxy h z me came q p c
       set-same p candidate.Nothing = refl
-      set-same p (candidate.At p1 i) = ap counted (from-same (proxied (neighbour (h .n) (i - 1) (firstOf h me + p1)) p) false)
+      set-same p (candidate.At p1 i) = ap oneMore (from-same (proxied (neighbour (h .n) (i - 1) (firstOf h me + p1)) p) false)
 
     reroute-same : (n : ℕ) → Same (rerouteOn h s me came n) (rerouteOn h z me came n)
     unfolding Same rerouteOn firstLevel Known
     reroute-same zero link p arrived k = refl
     reroute-same (suc zero) link p arrived k = refl
     reroute-same (suc (suc f)) Nothing p arrived k =
-        ap counted (from-same (rerouteOn h s me came (suc f)) (rerouteOn h z me came (suc f)) (reroute-same (suc f)) (cleared (retried (suc f) p)) false)
+        ap oneMore (from-same (rerouteOn h s me came (suc f)) (rerouteOn h z me came (suc f)) (reroute-same (suc f)) (cleared (retried (suc f) p)) false)
     reroute-same (suc (suc f)) (Link n1 n2 m) p arrived k =
         ap (setProxy h s me came (rerouteOn h s me came (suc f)) (retried (suc f) p)) (choice-same (placeOf h me) (firstLevel h s me came m arrived) (omega (arith, k .0)))
         ∙ set-same (rerouteOn h s me came (suc f)) (rerouteOn h z me came (suc f)) (reroute-same (suc f)) (retried (suc f) p)

@@ -22,6 +22,8 @@ use Rattle.forward.specs.declared.Journey.{Journey}
 use Rattle.forward.specs.Steps.{step}
 use Rattle.forward.specs.Journeys.{trip}
 use Rattle.forward.specs.Answers.{asksLent, asksPacket, refusedStep, stepOf, journeyFrom, refusedJourney, journeyOf}
+use Rattle.counted.specs.Counted.{counted}
+use Rattle.ends.specs.Tables.{lentCounted}
 use Rattle.forward.specs.Inside.{Here, Sound, Departing, asksBelow}
 
 -- the tests of a packet, in order
@@ -98,7 +100,7 @@ module _ (h : Hall) (me : ℕ) (p : Packet) (table : List ℕ) (r : ℕ) (e : r 
   pub step-refused : (r ≡ 0 → ⊥) → (o : Step) → o ≡ refusedStep r → o ≡ stepOf h me p table
   step-refused ne o q = rw (← e, ne-eqb r 0 ne) q
 
-  pub step-answered : r ≡ 0 → (o : Step) → o ≡ step h table me p → o ≡ stepOf h me p table
+  pub step-answered : r ≡ 0 → (o : Step) → o ≡ step h (lentCounted h me table) me p → o ≡ stepOf h me p table
   step-answered z o q = rw (← e, z) q
 
   pub step-sound : r ≡ 0 → Here h false table me × Sound h p
@@ -111,7 +113,7 @@ module _ (h : Hall) (me : ℕ) (p : Packet) (table : List ℕ) (r : ℕ) (e : r 
   pub journey-refused : (r ≡ 0 → ⊥) → (j : Journey) → j ≡ refusedJourney r → j ≡ journeyOf h me p table
   journey-refused ne j q = rw (← e, ne-eqb r 0 ne) q
 
-  pub journey-answered : r ≡ 0 → (j : Journey) → j ≡ journeyFrom (trip h table me p) → j ≡ journeyOf h me p table
+  pub journey-answered : r ≡ 0 → (j : Journey) → j ≡ journeyFrom (trip h (counted h 0 table) me p) → j ≡ journeyOf h me p table
   journey-answered z j q = rw (← e, z) q
 
   pub journey-sound : r ≡ 0 → Departing h table me p

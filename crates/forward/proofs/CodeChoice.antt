@@ -28,8 +28,8 @@ use Rattle.forward.specs.declared.Candidate.the-variants.{At, Nothing}
 use Rattle.forward.specs.Seen.{Seen}
 use Rattle.forward.specs.Proxies.{isCandidate, bestBelow, orElse, firstFound, choice}
 use Rattle.ends.specs.Tables.{cellPart}
-use Rattle.forward.specs.Inside.{Here, lent}
-use Rattle.forward.proofs.CodeTables.{own-long}
+use Rattle.forward.specs.Inside.{Here, held, lent}
+use Rattle.forward.proofs.CodeTables.{own-long, counting-own}
 use Rattle.forward.proofs.Chosen.{Nearest, Best, found, missing, best-found}
 
 -- the first that a search by distance and then by uid meets is the best of its level
@@ -133,7 +133,7 @@ unfolding choice
 choice-whole h s me m = refl
 
 -- the record of distances from a server of a sound hall
-module _ {whole : Bool} (h : Hall) (table : List ℕ) (me : ℕ) (a : Here h whole table me) (part : List ℕ) (o : part ≡ cellPart h (lent h whole table me))
+module _ {whole : Bool} (h : Hall) (table : List ℕ) (me : ℕ) (a : Here h whole table me) (part : List ℕ) (o : part ≡ cellPart h (held h whole table me))
     (from : Distances) (e : from ≡ distancesOf h me part) where
   abbrev own : List ℕ
   own = cellPart h (lent h whole table me)
@@ -142,7 +142,7 @@ module _ {whole : Bool} (h : Hall) (table : List ℕ) (me : ℕ) (a : Here h who
   unfolding refusal
   told =
       e ∙ ap (distancesOf h me) o
-      ∙ rw (a .sound, eq-eqb (length own) (cellLength h (h .b)) (own-long h whole table me a), lt-ltb me (servers h) (a .fits))
+      ∙ rw (a .sound, eq-eqb (length (cellPart h (held h whole table me))) (cellLength h (h .b)) (own-long h whole table me a), lt-ltb me (servers h) (a .fits), counting-own h whole table me a)
 
   pub count-is : from .count ≡ cellSize h
   count-is = ap (λ (d : Distances). d .count) told

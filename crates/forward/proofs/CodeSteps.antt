@@ -32,7 +32,7 @@ use Rattle.forward.specs.declared.Turned.{Turned}
 use Rattle.forward.specs.declared.Turned.the-variants.{Again, NoProxy}
 use Rattle.forward.specs.declared.Candidate.{Candidate}
 use Rattle.forward.specs.declared.Candidate.the-variants as candidate
-use Rattle.forward.specs.Packets.{drop-ttl, drop-route, drop-retry, drop-proxy, delivered, cleared, tidied, proxied, retried, isArrived, goal, sent, ended, counted}
+use Rattle.forward.specs.Packets.{drop-ttl, drop-route, drop-retry, drop-proxy, delivered, cleared, tidied, proxied, retried, isArrived, goal, sent, ended, oneMore}
 use Rattle.forward.specs.Seen.{Seen}
 use Rattle.forward.specs.Proxies.{isCandidate, choice}
 use Rattle.forward.specs.Steps.{Reroute, reachable, across, from4, firstLevel, rerouted, setProxy, rerouteOn, stepFrom, stepOn}
@@ -113,7 +113,7 @@ module _ (h : Hall) (s : Seen) (me : ℕ) (came : Packet) where
   -- the reroute by what it makes of the packet
   abbrev onTurn : Reroute → Turned → Step
   onTurn reroute NoProxy = ended drop-proxy came
-  onTurn reroute (Again r) = counted (from4 h s me came reroute r false)
+  onTurn reroute (Again r) = oneMore (from4 h s me came reroute r false)
 
   set-turn : (reroute : Reroute) (p : Packet) (found : Candidate) → setProxy h s me came reroute p found ≡ onTurn reroute (turnBy h me p found)
   set-turn reroute p candidate.Nothing = refl
@@ -135,12 +135,12 @@ module _ (h : Hall) (s : Seen) (me : ℕ) (came : Packet) where
     pub reroute-misses : (o : Step) → t ≡ NoProxy → o ≡ ended drop-proxy came → o ≡ rerouteOn h s me came (p .retry) link p arrived
     reroute-misses o e k = k ∙ sym (by-turn ∙ rw e)
 
-    pub reroute-again : (r : Packet) → t ≡ Again r → (o z : Step) → o ≡ stepFrom h s me came r false → z ≡ counted o
+    pub reroute-again : (r : Packet) → t ≡ Again r → (o z : Step) → o ≡ stepFrom h s me came r false → z ≡ oneMore o
         → z ≡ rerouteOn h s me came (p .retry) link p arrived
     unfolding stepFrom
     reroute-again r e o z g k =
         let n : p .retry - 1 ≡ r .retry = sym (turn-retry h s me link q arrived r (sym is ∙ e) ∙ ap (λ (x : Packet). x .retry) low) in
-        k ∙ ap counted g ∙ sym (by-turn ∙ rw (e, n))
+        k ∙ ap oneMore g ∙ sym (by-turn ∙ rw (e, n))
 
   -- a step has no more reroutes than the retry
   pub step-few : (o : Step) (p : Packet) (arrived : Bool) → o ≡ stepFrom h s me came p arrived → o .reroutes ≤ p .retry

@@ -12,6 +12,8 @@ use Rattle.hall.specs.Refusals.{most-retry}
 use Rattle.hall.specs.declared.Hall.{Hall}
 use Rattle.hall.proofs.Growth.{valid-known}
 use Rattle.local.specs.Local.{linked}
+use Rattle.counted.specs.Counted.{counted}
+use Rattle.counted.proofs.Counted.{counted-length}
 use Rattle.ends.specs.Tables.{stepTable, cellPart}
 use Rattle.forward.specs.declared.Packet.{Packet}
 use Rattle.forward.specs.declared.Step.{Step}
@@ -27,10 +29,6 @@ use Rattle.forward.proofs.Sight.{seen-links}
 use Rattle.forward.proofs.CodeSteps.{tidied-sound}
 
 module _ (h : Hall) (table : List ℕ) (me : ℕ) (p : Packet) (a : Departing h table me p) where
-  -- the step of a server of the hall has the hall table
-  pub here-whole : Here h true table me × Sound h p
-  here-whole = (record { sound = a .sound; long = a .long; fits = a .fits }, a .packet)
-
   module _ (o : Step) (q : o ≡ stepAt h table me p) where
     pub step-few : o .reroutes ≤ most-retry
     step-few =
@@ -83,6 +81,13 @@ module _ (h : Hall) (table : List ℕ) (me : ℕ) (p : Packet) (a : Departing h 
               retry-fits = let b = a .packet .retry-fits in omega (arith, g .retry);
             };
           })
+
+-- the journey goes by the hall table as its codes count, and each of its steps has the table as it stands
+pub departs-counted : (h : Hall) (table : List ℕ) (me : ℕ) (p : Packet) → Departing h table me p → Departing h (counted h 0 table) me p
+departs-counted h table me p a = record { sound = a .sound; long = counted-length h 0 table ∙ a .long; fits = a .fits; packet = a .packet }
+
+pub here-whole : (h : Hall) (table : List ℕ) (me : ℕ) (p : Packet) → Departing h (counted h 0 table) me p → Here h true table me × Sound h p
+here-whole h table me p a = (record { sound = a .sound; long = sym (counted-length h 0 table) ∙ a .long; fits = a .fits }, a .packet)
 
 -- what is passed so far, before a trip
 abbrev behind : List ℕ → ℕ → ℕ → Trip → Trip

@@ -26,9 +26,9 @@ use Rattle.local.proofs.Hops as hops
 use Rattle.ends.specs.Tables.{cellPart}
 use Rattle.forward.specs.declared.Way.the-variants.{To, Unreached}
 use Rattle.forward.specs.Seen.{seen, usable}
-use Rattle.forward.specs.Inside.{Target, Ahead, Crossed, lent, wayTo}
+use Rattle.forward.specs.Inside.{Target, Ahead, Crossed, held, lent, wayTo}
 use Rattle.forward.proofs.Links as links
-use Rattle.forward.proofs.CodeTables.{own-long, lent-shared}
+use Rattle.forward.proofs.CodeTables.{own-long, counting-own, lent-shared}
 
 hop-reached : (h : Hall) (table : List ℕ) → Valid h → (x y : ℕ) → x < cellSize h → y < cellSize h → (x ≡ y → ⊥)
     → ltb (hop h table x y) (cellSize h) ≡ not (eqb (distance h table y x) none)
@@ -49,16 +49,19 @@ module _ {whole : Bool} (h : Hall) (table : List ℕ) (me target : ℕ) (a : Tar
   abbrev place : ℕ
   place = hop h own (placeOf h me) (placeOf h target)
 
-  answer : nextHopOf h me target own ≡ hopAt h me place
+  abbrev stands : List ℕ
+  stands = cellPart h (held h whole table me)
+
+  answer : nextHopOf h me target stands ≡ hopAt h me place
   unfolding refusal
-  answer = rw (a .here .sound, eq-eqb (length own) (cellLength h (h .b)) (own-long h whole table me (a .here)), lt-ltb me (servers h) (a .here .fits), lt-ltb target (servers h) (a .fits), a .near)
+  answer = rw (a .here .sound, eq-eqb (length stands) (cellLength h (h .b)) (own-long h whole table me (a .here)), lt-ltb me (servers h) (a .here .fits), lt-ltb target (servers h) (a .fits), a .near, counting-own h whole table me (a .here))
 
   reaches : ltb place (cellSize h) ≡ not (eqb (distance h own (placeOf h target) (placeOf h me)) none)
   reaches =
       hop-reached h own v (placeOf h me) (placeOf h target) (place-fits h v me) (place-fits h v target)
       (λ e. a .apart (sym (place-one h me target (a .near) e)))
 
-  module _ (part : List ℕ) (o : part ≡ cellPart h (lent h whole table me)) (r : NextHop) (f : r ≡ nextHopOf h me target part) where
+  module _ (part : List ℕ) (o : part ≡ cellPart h (held h whole table me)) (r : NextHop) (f : r ≡ nextHopOf h me target part) where
     told : r ≡ hopAt h me place
     told = f ∙ ap (nextHopOf h me target) o ∙ answer
 

@@ -17,3 +17,4 @@ pub mod CodeChoice
 pub mod CodeAsks
 pub mod CodeSteps
 pub mod CodeTrips
+pub mod Counting

@@ -1,5 +1,5 @@
 -- What the calls for a step and a journey answer.
--- Sections "One forwarding step" and "Refusal numbers"; request K3.
+-- Sections "One forwarding step" and "Refusal numbers"; requests K3 and K5.
 use mathlib.Core.Bool.{not}
 use mathlib.Core.List.{List, [], _∷_, _++_}
 use Prim.Native.Nat.{ℕ, _-_}
@@ -10,7 +10,8 @@ use Rattle.hall.specs.declared.Hall.{Hall}
 use Rattle.hall.specs.Refusals.{Ask, refusal, answered, bad-uid, bad-length, bad-retry, most-retry}
 use Rattle.hall.specs.Halls.{servers, asksHall, asksUid}
 use Rattle.ports.specs.Answers.{asksTable}
-use Rattle.ends.specs.Tables.{stepLength}
+use Rattle.counted.specs.Counted.{counted}
+use Rattle.ends.specs.Tables.{stepLength, lentCounted}
 use Rattle.forward.specs.declared.Packet.{Packet}
 use Rattle.forward.specs.declared.Step.{Step}
 use Rattle.forward.specs.declared.Journey.{Journey}
@@ -45,11 +46,11 @@ noPacket = unproxied 0 0 0
 abbrev pub refusedStep : ℕ → Step
 refusedStep number = record { refusal = number; ending = 0; next = 0; packet = noPacket; reroutes = 0 }
 
--- one step at a server, over the table that it is lent
+-- one step at a server, over the table that it is lent, as its codes count
 abbrev pub stepOf : Hall → ℕ → Packet → List ℕ → Step
 stepOf h me p lent =
     answered (refusal (asksHall h ∷ asksLent h lent ∷ asksPacket h me p))
-    (step h lent me p)
+    (step h (lentCounted h me lent) me p)
     refusedStep
 
 -- the uids passed, zeros behind them
@@ -63,9 +64,9 @@ journeyFrom j = record { refusal = 0; ending = j .ending; links = j .links; rero
 abbrev pub refusedJourney : ℕ → Journey
 refusedJourney number = record { refusal = number; ending = 0; links = 0; reroutes = 0; uids = replicate most-passed 0 }
 
--- a journey from a source, over the hall table
+-- a journey from a source, over the hall table as its codes count
 abbrev pub journeyOf : Hall → ℕ → Packet → List ℕ → Journey
 journeyOf h source p table =
     answered (refusal (asksHall h ∷ asksTable h table ∷ asksPacket h source p))
-    (journeyFrom (trip h table source p))
+    (journeyFrom (trip h (counted h 0 table) source p))
     refusedJourney

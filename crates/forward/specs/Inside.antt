@@ -1,5 +1,5 @@
 -- What the functions inside a step ask and answer, behind the refusals.
--- Section "One forwarding step"; request K3.
+-- Section "One forwarding step"; requests K3 and K5.
 use mathlib.Core.Path.{_≡_}
 use mathlib.Core.Bool.{Bool, true, not}
 use mathlib.Core.List.{List, [], _∷_}
@@ -16,7 +16,8 @@ use Rattle.route.specs.declared.Crossing.{Crossing}
 use Rattle.route.specs.declared.Crossing.the-variants.{Link, Nothing}
 use Rattle.route.specs.Answers.{firstLink}
 use Rattle.local.specs.Local.{none, cellSize, placeOf, firstOf}
-use Rattle.ends.specs.Tables.{stepLength, stepTable}
+use Rattle.counted.specs.Counted.{counted}
+use Rattle.ends.specs.Tables.{stepLength, stepTable, lentCounted}
 use Rattle.forward.specs.declared.Packet.{Packet}
 use Rattle.forward.specs.declared.Way.{Way}
 use Rattle.forward.specs.declared.Way.the-variants.{To, Closed, Unreached}
@@ -31,10 +32,13 @@ use Rattle.forward.specs.Seen.{Seen}
 use Rattle.forward.specs.Proxies.{choice}
 use Rattle.forward.specs.Answers.{asksRetry}
 
--- the code of a step has either the table that the step is lent or, on a journey, the whole hall table: what the step is lent by it, and its
--- length
+-- the code of a step has either the table that the step is lent or, on a journey, the whole hall table: what it holds for the step as the codes
+-- stand, the same as they count, and its length
+abbrev pub held : Hall → Bool → List ℕ → ℕ → List ℕ
+held h whole table me = pick whole (stepTable h table me) table
+
 abbrev pub lent : Hall → Bool → List ℕ → ℕ → List ℕ
-lent h whole table me = pick whole (stepTable h table me) table
+lent h whole table me = pick whole (stepTable h (counted h 0 table) me) (lentCounted h me table)
 
 abbrev pub lentLength : Hall → Bool → ℕ
 lentLength h whole = pick whole (tableLength h) (stepLength h)
@@ -141,3 +145,9 @@ pub record Departing (h : Hall) (table : List ℕ) (me : ℕ) (p : Packet) : Typ
   pub long : length table ≡ tableLength h
   pub fits : me < servers h
   pub packet : Sound h p
+
+-- two servers of a hall
+pub record Servers (h : Hall) (u v : ℕ) : Type 0 where
+  pub sound : valid h ≡ true
+  pub u-fits : u < servers h
+  pub v-fits : v < servers h

@@ -15,7 +15,7 @@ use Rattle.forward.specs.declared.Packet.{Packet}
 use Rattle.forward.specs.declared.Step.{Step}
 use Rattle.forward.specs.declared.Candidate.{Candidate}
 use Rattle.forward.specs.declared.Candidate.the-variants as candidate
-use Rattle.forward.specs.Packets.{drop-ttl, drop-route, drop-retry, drop-proxy, delivered, cleared, tidied, proxied, retried, isArrived, goal, sent, ended, counted}
+use Rattle.forward.specs.Packets.{drop-ttl, drop-route, drop-retry, drop-proxy, delivered, cleared, tidied, proxied, retried, isArrived, goal, sent, ended, oneMore}
 use Rattle.forward.specs.Seen.{Seen, seen}
 use Rattle.forward.specs.Proxies.{choice}
 
@@ -51,7 +51,7 @@ module _ (h : Hall) (s : Seen) (me : ℕ) (came : Packet) where
   -- the new proxy is p1's neighbour at that level
   abbrev pub setProxy : Reroute → Packet → Candidate → Step
   setProxy reroute p candidate.Nothing = ended drop-proxy came
-  setProxy reroute p (candidate.At p1 i) = counted (from4 reroute (proxied (neighbour (h .n) (i - 1) (firstOf h me + p1)) p) false)
+  setProxy reroute p (candidate.At p1 i) = oneMore (from4 reroute (proxied (neighbour (h .n) (i - 1) (firstOf h me + p1)) p) false)
 
   -- the level to try first: that of the link, plus one if "arrived" and it is below k
   unfoldable pub firstLevel : ℕ → Bool → ℕ
@@ -59,7 +59,7 @@ module _ (h : Hall) (s : Seen) (me : ℕ) (came : Packet) where
 
   -- a proxy in the own cell that can't be reached is cleared; else a new one is set
   abbrev pub rerouted : Reroute → Crossing → Packet → Bool → Step
-  rerouted reroute Nothing p arrived = counted (from4 reroute (cleared p) false)
+  rerouted reroute Nothing p arrived = oneMore (from4 reroute (cleared p) false)
   rerouted reroute (Link n1 n2 m) p arrived = setProxy reroute p (choice h s (placeOf h me) (firstLevel m arrived))
 
   -- if retry <= 1, drop 3; else lower it by one

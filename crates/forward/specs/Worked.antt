@@ -7,7 +7,7 @@ use Rattle.combine.specs.Tests.{anyBelow}
 use Rattle.combine.specs.Lists.{upTo}
 use Rattle.hall.specs.declared.Hall.{Hall}
 use Rattle.hall.specs.Cells.{t, cell, same, sub, port, end, near, far, neighbour, lowest}
-use Rattle.hall.specs.Halls.{hallOf, nFits, kFits, bFits, valid, servers}
+use Rattle.hall.specs.Halls.{racks, capacity, fullHall, nFits, kFits, bFits, countFits, valid, servers}
 use Rattle.ports.specs.Codes.{codeOf, up, cellLength}
 use Rattle.ports.specs.Links.{onSwitch, bothUp, joined}
 use Rattle.search.specs.Rounds.{new, mark, marks}
@@ -23,7 +23,7 @@ use Rattle.forward.specs.Proxies.{isCandidate, bestBelow, firstFound, ch
 use Rattle.forward.specs.Steps.{reachable, firstLevel, rerouteOn, stepFrom, stepOn, step}
 
 hall : Hall
-hall = hallOf 4 1 0
+hall = fullHall 4 1 0
 
 -- the table of servers 0 to 3: port 0 of server 1 is down; and the far port of each one's link of level 1: that of server 3 is silent
 table : List ℕ
@@ -40,10 +40,10 @@ at-dst = refl
 
 -- to 19 by way of proxy 1, which can't be reached: it is cleared; the link 3-16 is out, so a new proxy is set, the neighbour of 0 itself
 two-reroutes : step hall table 0 (packet 19 1 5 15) ≡ record { refusal = 0; ending = forwarded; next = 4; packet = packet 19 4 3 14; reroutes = 2 }
-unfolding anyBelow upTo t cell same sub port end near far neighbour lowest nFits kFits bFits valid servers codeOf up cellLength cellPart farPlace farIn onSwitch bothUp joined new mark marks route hops firstAmong firstAbove firstLink lowestFrom cellSize placeOf firstOf linked distancesFrom distance nearer hop isArrived goal usable isCandidate bestBelow firstFound choice reachable firstLevel rerouteOn stepFrom stepOn hall table packet
+unfolding anyBelow upTo t cell same sub port end near far neighbour lowest nFits kFits bFits countFits capacity racks valid servers codeOf up cellLength cellPart farPlace farIn onSwitch bothUp joined new mark marks route hops firstAmong firstAbove firstLink lowestFrom cellSize placeOf firstOf linked distancesFrom distance nearer hop isArrived goal usable isCandidate bestBelow firstFound choice reachable firstLevel rerouteOn stepFrom stepOn hall table packet
 two-reroutes = refl
 
 -- dst in the own cell, and the proxy out of reach: drop 2, though dst could be reached
 no-route : step hall table 0 (packet 2 1 5 15) ≡ record { refusal = 0; ending = drop-route; next = 0; packet = packet 2 1 5 15; reroutes = 0 }
-unfolding anyBelow upTo t cell same sub port end near far neighbour lowest nFits kFits bFits valid servers codeOf up cellLength cellPart farPlace farIn onSwitch bothUp joined new mark marks route hops firstAmong firstAbove firstLink lowestFrom cellSize placeOf firstOf linked distancesFrom distance nearer hop isArrived goal usable isCandidate bestBelow firstFound choice reachable firstLevel rerouteOn stepFrom stepOn hall table packet
+unfolding anyBelow upTo t cell same sub port end near far neighbour lowest nFits kFits bFits countFits capacity racks valid servers codeOf up cellLength cellPart farPlace farIn onSwitch bothUp joined new mark marks route hops firstAmong firstAbove firstLink lowestFrom cellSize placeOf firstOf linked distancesFrom distance nearer hop isArrived goal usable isCandidate bestBelow firstFound choice reachable firstLevel rerouteOn stepFrom stepOn hall table packet
 no-route = refl

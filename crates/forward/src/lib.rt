@@ -13,14 +13,16 @@ ghost use Rattle.hall.specs.Halls.{top, valid, servers};
 ghost use Rattle.hall.specs.Refusals.{refusal, bad-length};
 ghost use Rattle.route.specs.Answers.{firstLink};
 ghost use Rattle.local.specs.Local.{none, cellSize, placeOf, firstOf};
+ghost use Rattle.plan.specs.Answers.{fitted};
+ghost use Rattle.counted.specs.Counted.{counted};
 ghost use Rattle.ends.specs.Tables.{stepLength, cellPart, farPlace};
-ghost use Rattle.forward.specs.Packets.{cleared, tidied, proxied, retried, aged, isArrived, goal, sent, ended, counted};
+ghost use Rattle.forward.specs.Packets.{cleared, tidied, proxied, retried, aged, isArrived, goal, sent, ended, oneMore};
 ghost use Rattle.forward.specs.Seen.{seen, usable};
 ghost use Rattle.forward.specs.Proxies.{choice};
 ghost use Rattle.forward.specs.Steps.{stepFrom, rerouteOn, step};
 ghost use Rattle.forward.specs.Journeys.{trip};
 ghost use Rattle.forward.specs.Answers.{most-passed, refusedStep, stepOf, journeyFrom, refusedJourney, journeyOf};
-ghost use Rattle.forward.specs.Inside.{Here, Target, Ahead, Standing, Stopped, Above, Placed, Crossed, Sound, Departing, lent, wayTo, wayOver, outlookOf, turnOf, asksBelow};
+ghost use Rattle.forward.specs.Inside.{Here, Target, Ahead, Standing, Stopped, Above, Placed, Crossed, Servers, Sound, Departing, held, lent, wayTo, wayOver, outlookOf, turnOf, asksBelow};
 use crate::endings::DELIVERED;
 use crate::endings::DROP_PROXY;
 use crate::endings::DROP_RETRY;
@@ -205,9 +207,9 @@ fn ended(ending: u32, came: Packet) -> Step
 }
 
 // The step with one reroute more.
-fn counted(o: Step) -> Step
+fn one_more(o: Step) -> Step
     requires { ⌜ o .reroutes < 4294967295 ⌝ }
-    ensures { λ r. ⌜ r ≡ counted o ⌝ }
+    ensures { λ r. ⌜ r ≡ oneMore o ⌝ }
 {
     let packet = o.packet;
     Step {
@@ -238,7 +240,7 @@ fn bytes_of(servers: u32, k: u32) -> usize
 // The codes of the DCell(b) of a server: the first bytes of what it is lent, or its part of the hall table.
 fn own_part(h: Hall, whole: bool, table: &[u8], me: u32) -> &[u8]
     requires { ⌜ Here h whole (now table) me ⌝ }
-    ensures { λ r. ⌜ now r ≡ cellPart h (lent h whole (now (table .entry)) me) ⌝ }
+    ensures { λ r. ⌜ now r ≡ cellPart h (held h whole (now (table .entry)) me) ⌝ }
 {
     let cell = hall::size_of(h, h.b);
     let bytes = bytes_of(cell, h.k);
@@ -259,7 +261,7 @@ fn far_place(h: Hall, level: u32, place: u32) -> usize
     bytes_of(hall::size_of(h, h.b), h.k) + (far as usize)
 }
 
-// Whether the link of a level above b at a place of the cell is usable, by the table that a step is lent.
+// Whether both ends of the link of a level above b at a place of the cell are up, by the table that a step is lent.
 fn is_open(h: Hall, table: &[u8], level: u32, place: u32) -> bool
     requires { ⌜ Above h place level × (length (now table) ≡ stepLength h) ⌝ }
     ensures { λ r. ⌜ r ≡ usable h (now (table .entry)) level place ⌝ }
@@ -271,10 +273,10 @@ fn is_open(h: Hall, table: &[u8], level: u32, place: u32) -> bool
     table[at] == UP
 }
 
-// Whether the link of a level above b between two servers is usable: by what the near one is lent, or by both codes in the hall table.
-fn is_usable(h: Hall, whole: bool, table: &[u8], level: u32, near: u32, far: u32) -> bool
+// Whether both ends of the link of a level above b between two servers are up: by what the near one is lent, or by both codes in the hall table.
+fn is_up_over(h: Hall, whole: bool, table: &[u8], level: u32, near: u32, far: u32) -> bool
     requires { ⌜ Crossed h whole (now table) near far level ⌝ }
-    ensures { λ r. ⌜ r ≡ usable h (lent h whole (now (table .entry)) near) level (placeOf h near) ⌝ }
+    ensures { λ r. ⌜ r ≡ usable h (held h whole (now (table .entry)) near) level (placeOf h near) ⌝ }
 {
     if !whole {
         return is_open(h, table, level, near % hall::size_of(h, h.b));
@@ -283,6 +285,31 @@ fn is_usable(h: Hall, whole: bool, table: &[u8], level: u32, near: u32, far: u32
         return false;
     }
     ports::is_up(h, table, far, level)
+}
+
+// Whether both servers of a link are fitted; in a full hall every server is.
+fn are_fitted(h: Hall, near: u32, far: u32) -> bool
+    requires { ⌜ Servers h near far ⌝ }
+    ensures { λ r. ⌜ r ≡ both (fitted h near) (fitted h far) ⌝ }
+{
+    if h.count == hall::racks_of(h.n, h.k) {
+        return true;
+    }
+    if !plan::is_fitted(h, near) {
+        return false;
+    }
+    plan::is_fitted(h, far)
+}
+
+// Whether the link of a level above b between two servers is usable: both its ends are up, and both servers fitted.
+fn is_usable(h: Hall, whole: bool, table: &[u8], level: u32, near: u32, far: u32) -> bool
+    requires { ⌜ Crossed h whole (now table) near far level ⌝ }
+    ensures { λ r. ⌜ r ≡ usable h (lent h whole (now (table .entry)) near) level (placeOf h near) ⌝ }
+{
+    if !is_up_over(h, whole, table, level, near, far) {
+        return false;
+    }
+    are_fitted(h, near, far)
 }
 
 // The way to a local target.
@@ -360,10 +387,10 @@ fn proxy_of(h: Hall, me: u32, place: u32, level: u32) -> u32
     cells::neighbour_of(h, uid_at(h, me, place), level).uid
 }
 
-// Whether the link of a level above b at a place of the DCell(b) around `me` is usable; in the hall table the far port is looked for last.
-fn is_usable_at(h: Hall, whole: bool, table: &[u8], me: u32, level: u32, place: u32) -> bool
+// Whether both ends of the link of a level above b at a place of the DCell(b) around `me` are up; in the hall table the far port is looked for last.
+fn is_up_at(h: Hall, whole: bool, table: &[u8], me: u32, level: u32, place: u32) -> bool
     requires { ⌜ Here h whole (now table) me × Above h place level ⌝ }
-    ensures { λ r. ⌜ r ≡ usable h (lent h whole (now (table .entry)) me) level place ⌝ }
+    ensures { λ r. ⌜ r ≡ usable h (held h whole (now (table .entry)) me) level place ⌝ }
 {
     if !whole {
         return is_open(h, table, level, place);
@@ -372,6 +399,17 @@ fn is_usable_at(h: Hall, whole: bool, table: &[u8], me: u32, level: u32, place: 
         return false;
     }
     ports::is_up(h, table, proxy_of(h, me, place, level), level)
+}
+
+// Whether the link of a level above b at a place of the DCell(b) around `me` is usable: its far server is looked for last.
+fn is_usable_at(h: Hall, whole: bool, table: &[u8], me: u32, level: u32, place: u32) -> bool
+    requires { ⌜ Here h whole (now table) me × Above h place level ⌝ }
+    ensures { λ r. ⌜ r ≡ usable h (lent h whole (now (table .entry)) me) level place ⌝ }
+{
+    if !is_up_at(h, whole, table, me, level, place) {
+        return false;
+    }
+    are_fitted(h, me, proxy_of(h, me, place, level))
 }
 
 // Whether a place, whose distance is x, is a candidate at distance d.
@@ -537,7 +575,7 @@ fn reroute(
         Turned::NoProxy => ended(DROP_PROXY, came),
         Turned::Again { packet } => {
             let outlook = look(h, whole, table, me, came.dst, goal(packet));
-            counted(step_from(h, whole, table, me, came, packet, false, outlook))
+            one_more(step_from(h, whole, table, me, came, packet, false, outlook))
         }
     }
 }
@@ -655,7 +693,7 @@ fn no_uids() -> [u32; MOST_PASSED]
 // The journey of a packet that nothing refuses.
 fn travel(h: Hall, table: &[u8], source: u32, packet: Packet) -> Journey
     requires { ⌜ Departing h (now table) source packet ⌝ }
-    ensures { λ r. ⌜ r ≡ journeyFrom (trip h (now (table .entry)) source packet) ⌝ }
+    ensures { λ r. ⌜ r ≡ journeyFrom (trip h (counted h 0 (now (table .entry))) source packet) ⌝ }
 {
     let mut uids = no_uids();
     let mut me = source;

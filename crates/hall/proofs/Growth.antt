@@ -1,7 +1,7 @@
 -- Laws of sizes: t is positive and grows with n and with the level, so the largest hall bounds every other; what a valid hall is, and the sizes
 -- that a call works out once.
 use mathlib.Core.Path.{_≡_, _∙_, ap}
-use mathlib.Core.Bool.{true, false}
+use mathlib.Core.Bool.{Bool, true, false}
 use mathlib.Core.List.{List}
 use Prim.Native.Nat.{ℕ, zero, suc, min, _+_, _-_, _*_, _<_, _≤_}
 use native.Mathlib.Nat.{le-trans, mul-le-mul}
@@ -19,7 +19,7 @@ use Rattle.hall.specs.declared.Hall.{Hall}
 use Rattle.hall.specs.declared.Sizes.{Sizes}
 use Rattle.hall.specs.Refusals.{refusal}
 use Rattle.hall.specs.Cells.{t, g}
-use Rattle.hall.specs.Halls.{places, top, most-n, Sized, nFits, kFits, bFits, valid, servers, largest}
+use Rattle.hall.specs.Halls.{places, top, most-n, Sized, capacity, nFits, kFits, bFits, countFits, valid, servers, largest}
 use Rattle.hall.specs.Answers.{sizeAt, sizeOf, sizesOf}
 use Rattle.hall.proofs.Cells.{t-pos}
 
@@ -74,15 +74,19 @@ pub record Valid (h : Hall) : Type 0 where
   pub k-high : h .k ≤ top
   pub b-high : h .b ≤ 1
   pub b-low : h .b ≤ h .k
+  pub count-fits : countFits (h .n) (h .k) (h .count) ≡ true
 
 pub valid-known : (h : Hall) → valid h ≡ true → Valid h
 unfolding valid nFits kFits bFits
 valid-known h e =
-    let n = both-left (nFits (h .n)) (both (kFits (h .n) (h .k)) (bFits (h .k) (h .b))) e in
-    let kb = both-right (nFits (h .n)) (both (kFits (h .n) (h .k)) (bFits (h .k) (h .b))) e in
+    let C : Bool = countFits (h .n) (h .k) (h .count) in
+    let B : Bool = both (bFits (h .k) (h .b)) C in
+    let n = both-left (nFits (h .n)) (both (kFits (h .n) (h .k)) B) e in
+    let kb = both-right (nFits (h .n)) (both (kFits (h .n) (h .k)) B) e in
+    let bc = both-right (kFits (h .n) (h .k)) B kb in
     let n-high = leb-true (h .n) most-n (both-right (leb 2 (h .n)) (leb (h .n) most-n) n) in
-    let k-high = leb-true (h .k) top (both-left (kFits (h .n) (h .k)) (bFits (h .k) (h .b)) kb) in
-    let b = leb-true (h .b) (min 1 (h .k)) (both-right (kFits (h .n) (h .k)) (bFits (h .k) (h .b)) kb) in
+    let k-high = leb-true (h .k) top (both-left (kFits (h .n) (h .k)) B kb) in
+    let b = leb-true (h .b) (min 1 (h .k)) (both-left (bFits (h .k) (h .b)) C bc) in
     record {
       n-low = leb-true 2 (h .n) (both-left (leb 2 (h .n)) (leb (h .n) most-n) n);
       sized = record { n-high = n-high; k-high = k-high };
@@ -90,6 +94,7 @@ valid-known h e =
       k-high = k-high;
       b-high = omega arith;
       b-low = omega arith;
+      count-fits = both-right (bFits (h .k) (h .b)) C bc;
     }
 
 -- every size of a valid hall is positive and bounded

@@ -5,4 +5,5 @@ pub mod Cells
 pub mod Links
 pub mod Tuples
 pub mod Growth
+pub mod Racks
 pub mod Told

@@ -1,9 +1,9 @@
 -- Which halls there are, and what a call asks of a hall and a uid.
--- Section "The hall and its numbers".
+-- Section "The hall and its numbers"; request K5.
 use mathlib.Core.Bool.{Bool}
-use Prim.Native.Nat.{ℕ, min, _+_, _≤_}
-use lib.Dec.{leb, ltb}
-use Rattle.combine.specs.Tests.{both}
+use Prim.Native.Nat.{ℕ, zero, suc, min, _+_, _-_, _*_, _≤_}
+use lib.Dec.{eqb, leb, ltb}
+use Rattle.combine.specs.Tests.{pick, both}
 use Rattle.hall.specs.declared.Hall.{Hall}
 use Rattle.hall.specs.Refusals.{Ask, bad-hall, bad-uid, bad-range}
 use Rattle.hall.specs.Cells.{t}
@@ -24,9 +24,22 @@ places = top + 1
 abbrev pub largest : ℕ
 largest = 27630792
 
--- the hall of three numbers
-abbrev pub hallOf : ℕ → ℕ → ℕ → Hall
-hallOf n k b = record { n = n; k = k; b = b }
+-- the hall of four numbers
+abbrev pub hallOf : ℕ → ℕ → ℕ → ℕ → Hall
+hallOf n k b count = record { n = n; k = k; b = b; count = count }
+
+-- how many racks, which are DCell1s, a DCell of level m + 1 has
+unfoldable pub racks : ℕ → ℕ → ℕ
+racks n zero = 1
+racks n (suc m) = (t n (suc m) + 1) * racks n m
+
+-- the DCell1s that a hall can have: t(k) / t(1), and 1 with k below 2
+unfoldable pub capacity : ℕ → ℕ → ℕ
+capacity n k = racks n (k - 1)
+
+-- the hall of which every DCell1 is fitted
+abbrev pub fullHall : ℕ → ℕ → ℕ → Hall
+fullHall n k b = hallOf n k b (capacity n k)
 
 -- a hall of n servers to a switch and top level k has sizes that fit: none is above the largest (`t-fits`)
 pub record Sized (n k : ℕ) : Type 0 where
@@ -45,9 +58,17 @@ kFits n k = leb k top
 unfoldable pub bFits : ℕ → ℕ → Bool
 bFits k b = leb b (min 1 k)
 
+-- the DCell1s fitted are no more than there can be; with k below 2 there is one
+unfoldable pub countFits : ℕ → ℕ → ℕ → Bool
+countFits n k count = pick (leb 2 k) (leb count (capacity n k)) (eqb count 1)
+
 -- there is such a hall
 unfoldable pub valid : Hall → Bool
-valid h = both (nFits (h .n)) (both (kFits (h .n) (h .k)) (bFits (h .k) (h .b)))
+valid h = both (nFits (h .n)) (both (kFits (h .n) (h .k)) (both (bFits (h .k) (h .b)) (countFits (h .n) (h .k) (h .count))))
+
+-- every DCell1 of the hall is fitted
+unfoldable pub isFull : Hall → Bool
+isFull h = eqb (h .count) (capacity (h .n) (h .k))
 
 -- t(k): the servers of the hall
 unfoldable pub servers : Hall → ℕ

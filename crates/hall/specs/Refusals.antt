@@ -6,7 +6,7 @@ use mathlib.Core.List.{List, [], _∷_}
 use lib.Dec.{eqb}
 use Rattle.combine.specs.Tests.{pick, both, either}
 
--- n, k or b outside its range
+-- n, k, b or the count of a hall outside its range
 abbrev pub bad-hall : ℕ
 bad-hall = 1
 
@@ -54,6 +54,10 @@ bad-sheet = 10
 abbrev pub bad-address : ℕ
 bad-address = 11
 
+-- every DCell1 of the hall is fitted
+abbrev pub hall-full : ℕ
+hall-full = 12
+
 -- of a frame that is read: a version that there is not
 abbrev pub bad-version : ℕ
 bad-version = 13
@@ -72,7 +76,7 @@ bad-PF = 16
 
 -- the order in which a call gives them
 abbrev pub order : List ℕ
-order = bad-hall ∷ bad-length ∷ bad-uid ∷ bad-range ∷ bad-retry ∷ bad-address ∷ bad-code ∷ short-room ∷ []
+order = bad-hall ∷ hall-full ∷ bad-length ∷ bad-uid ∷ bad-range ∷ bad-retry ∷ bad-address ∷ bad-code ∷ short-room ∷ []
 
 -- what a call asks of its input: a refusal's number, and whether the input is sound there
 abbrev pub Ask : Type 0

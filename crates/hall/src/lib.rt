@@ -2,11 +2,12 @@
 pub mod refusals;
 
 ghost use mathlib.Core.Path.{_≡_};
+ghost use Prim.Native.Nat.{_<_};
 ghost use Rattle.combine.specs.Tests.{pick};
 ghost use Rattle.combine.specs.Lists.{upTo};
 ghost use Rattle.hall.specs.Cells.{t};
-ghost use Rattle.hall.specs.Halls.{places, Sized, nFits, kFits, bFits, valid, servers};
-ghost use Rattle.hall.specs.Answers.{sizeAt, sizeOf, sizesOf};
+ghost use Rattle.hall.specs.Halls.{places, Sized, capacity, nFits, kFits, bFits, countFits, valid, servers};
+ghost use Rattle.hall.specs.Answers.{sizeAt, sizeOf, racksOf, sizesOf};
 use crate::refusals::BAD_HALL;
 
 // The most servers on a mini-switch.
@@ -16,11 +17,12 @@ pub const TOP: u32 = 3;
 // The places of a tuple, one for each level that a hall may have.
 pub const PLACES: usize = 4;
 
-// A hall: n servers on a mini-switch, top level k, local level b.
+// A hall: n servers on a mini-switch, top level k, local level b, and the number of DCell1s that are fitted.
 pub struct Hall {
     pub n: u32,
     pub k: u32,
     pub b: u32,
+    pub count: u32,
 }
 
 // The sizes of a hall: t(0) .. t(k), zeros above k.
@@ -56,6 +58,41 @@ pub fn b_fits(k: u32, b: u32) -> bool
     b <= k
 }
 
+// The DCell1s that a hall can have: the sub-cells of a DCell2 where k is 2 or 3, times those of a DCell3 where k is 3. Every call that is handed a hall
+// asks for this, so it has no branch: then a compiler works it out once for all of a call's functions.
+fn capacity(n: u32, k: u32) -> u32
+    requires { ⌜ Sized n k ⌝ }
+    ensures { λ r. ⌜ r ≡ capacity n k ⌝ }
+{
+    let one = (n + 1) * n;
+    let two = (one + 1) * one;
+    (one * (k / 2) + 1) * (two * (k / 3) + 1)
+}
+
+// The DCell1s that a hall can have; 0 where n or k is outside its range.
+pub fn racks_of(n: u32, k: u32) -> u32
+    ensures { λ r. ⌜ r ≡ racksOf n k ⌝ }
+{
+    if !n_fits(n) {
+        return 0;
+    }
+    if !k_fits(n, k) {
+        return 0;
+    }
+    capacity(n, k)
+}
+
+// Whether so many DCell1s may be fitted; with k below 2, where there can be one, none is too few.
+fn count_fits(n: u32, k: u32, count: u32) -> bool
+    requires { ⌜ Sized n k ⌝ }
+    ensures { λ r. ⌜ r ≡ countFits n k count ⌝ }
+{
+    if capacity(n, k) < count {
+        return false;
+    }
+    0 < count + k / 2
+}
+
 // Whether there is such a hall.
 fn is_valid(h: Hall) -> bool
     ensures { λ r. ⌜ r ≡ valid h ⌝ }
@@ -66,7 +103,10 @@ fn is_valid(h: Hall) -> bool
     if !k_fits(h.n, h.k) {
         return false;
     }
-    b_fits(h.k, h.b)
+    if !b_fits(h.k, h.b) {
+        return false;
+    }
+    count_fits(h.n, h.k, h.count)
 }
 
 // The servers of a DCell of level i.

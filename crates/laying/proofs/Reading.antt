@@ -147,6 +147,12 @@ unfolding All fill-then result and-then
 all-then P g ended y a b = b
 all-then P g (put v rest) y a b = (a .0, all-then P g rest y (a .1) b)
 
+pub then-all : (P : ℕ → (ℕ → Bool) → ℕ → Type 0) {f : Format} (g : ℕ → Format) (x : Filled f) (y : Filled (g (result x)))
+    → All P (fill-then g x y) → All P x × All P y
+unfolding All fill-then result and-then
+then-all P g ended y a = (tt, a)
+then-all P g (put v rest) y a = let r = then-all P g rest y (a .1) in ((a .0, r .0), r .1)
+
 -- what is behind sound values is judged where they end
 pub judged-then : {f : Format} (g : ℕ → Format) (x : Filled f) (y : Filled (g (result x))) (at : ℕ)
     → judged (fill-then g x y) at ≡ onward (judged x at) (λ v next. judged y next)

@@ -12,3 +12,4 @@ pub mod Meets
 pub mod Beside
 pub mod Uids
 pub mod Short
+pub mod Counting

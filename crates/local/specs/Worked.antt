@@ -7,7 +7,7 @@ use Rattle.combine.specs.Tests.{anyBelow}
 use Rattle.combine.specs.Lists.{upTo}
 use Rattle.hall.specs.declared.Hall.{Hall}
 use Rattle.hall.specs.Cells.{t, cell, same, neighbour}
-use Rattle.hall.specs.Halls.{hallOf}
+use Rattle.hall.specs.Halls.{fullHall}
 use Rattle.ports.specs.Codes.{codeOf, up}
 use Rattle.ports.specs.Links.{onSwitch, bothUp, joined}
 use Rattle.search.specs.Rounds.{new, mark, marks}
@@ -16,7 +16,7 @@ use Rattle.local.specs.Local.{cellSize, linked, distancesFrom, distance,
 
 -- n = 2, k = 1, b = 1: the ring 0 1 4 5 3 2
 ring : Hall
-ring = hallOf 2 1 1
+ring = fullHall 2 1 1
 
 allUp : List ℕ
 allUp = replicate 12 1
@@ -49,7 +49,7 @@ dead-distances = refl
 
 -- n = 4, k = 1, b = 1, codes all 1 but 2 at bytes 7 and 33: from 0 towards 19 both 2 and 4 are one link nearer, and 2 is lower
 sheet : Hall
-sheet = hallOf 4 1 1
+sheet = fullHall 4 1 1
 
 codes : List ℕ
 codes = set (set (replicate 40 1) 7 2) 33 2

@@ -11,6 +11,7 @@ ghost use Rattle.hall.specs.Halls.{most-n, valid, servers, asksHall, asksUid};
 ghost use Rattle.ports.specs.Codes.{up};
 ghost use Rattle.ports.specs.Links.{onSwitch, bothUp, switchHas};
 ghost use Rattle.ports.specs.Answers.{asksCell};
+ghost use Rattle.plan.specs.Answers.{fitted};
 ghost use Rattle.search.specs.Rounds.{new, round};
 ghost use Rattle.local.specs.Local.{places, none, cellSize, linked, recordFrom, hop};
 ghost use Rattle.local.specs.Lowest.{lowestFrom};
@@ -230,6 +231,20 @@ fn distances_from(h: Hall, table: &[u8], o: u32) -> [u8; 72]
     d
 }
 
+// The table of a server's DCell(b); none of it where the server is not fitted, since then no code of it counts.
+fn own_codes(h: Hall, uid: u32, table: &[u8]) -> &[u8]
+    requires { ⌜ (valid h ≡ true) × (uid < servers h) ⌝ }
+    ensures { λ r. ⌜ now r ≡ pick (fitted h uid) (now (table .entry)) [] ⌝ }
+{
+    if h.count == hall::racks_of(h.n, h.k) {
+        return table;
+    }
+    if plan::is_fitted(h, uid) {
+        return table;
+    }
+    &table[0..0]
+}
+
 // The distances from a server to each server of its DCell(b), over the table of that cell.
 pub fn distances_of(h: Hall, uid: u32, table: &[u8]) -> Distances
     ensures { λ r. ⌜ r ≡ distancesOf h uid (now (table .entry)) ⌝ }
@@ -248,7 +263,7 @@ pub fn distances_of(h: Hall, uid: u32, table: &[u8]) -> Distances
         refusal: 0,
         origin: uid,
         count,
-        distance: distances_from(h, table, uid % count),
+        distance: distances_from(h, own_codes(h, uid, table), uid % count),
     }
 }
 
@@ -413,7 +428,7 @@ pub fn next_hop(h: Hall, uid: u32, target: u32, table: &[u8]) -> NextHop
             uid: 0,
         };
     }
-    let z = hop_place(h, table, uid % count, target % count);
+    let z = hop_place(h, own_codes(h, uid, table), uid % count, target % count);
     if z < count {
         let next = cell * count + z;
         return NextHop {

@@ -7,7 +7,7 @@ use Prim.Native.Nat.{ℕ}
 use lib.ListN.{replicate}
 use Rattle.hall.specs.declared.Hall.{Hall}
 use Rattle.hall.specs.Cells.{t, cell, same, neighbour}
-use Rattle.hall.specs.Halls.{hallOf, nFits, kFits, bFits, valid, servers}
+use Rattle.hall.specs.Halls.{racks, capacity, fullHall, nFits, kFits, bFits, countFits, valid, servers}
 use Rattle.hall.specs.Refusals.{refusal}
 use Rattle.ports.specs.Codes.{known, allKnown, firstUnknown, codeOf, up, tableLength, cellLength, run}
 use Rattle.ports.specs.Links.{onSwitch, bothUp, joined}
@@ -22,7 +22,7 @@ unfolding known
 seven-is-unknown = refl
 
 hall : Hall
-hall = hallOf 4 1 0
+hall = fullHall 4 1 0
 
 table : ℕ → List ℕ
 table code = replicate 7 1 ++ (code ∷ []) ++ replicate 25 1 ++ (code ∷ []) ++ replicate 6 1
@@ -52,15 +52,15 @@ cable-up = refl
 
 -- the check takes 2
 check-known : checkOf hall (table 2) ≡ record { refusal = 0; place = 0 }
-unfolding refusal valid nFits kFits bFits tableLength servers t known allKnown firstUnknown hall table
+unfolding refusal valid nFits kFits bFits countFits capacity racks tableLength servers t known allKnown firstUnknown hall table
 check-known = refl
 
 -- the part for server 17 is that of its switch: servers 16 to 19, the bytes 32 to 39
 part-of-seventeen : partOf hall (table 2) 17 ≡ 1 ∷ 2 ∷ 1 ∷ 1 ∷ 1 ∷ 1 ∷ 1 ∷ 1 ∷ []
-unfolding refusal valid nFits kFits bFits tableLength servers cellLength run cell t hall table
+unfolding refusal valid nFits kFits bFits countFits capacity racks tableLength servers cellLength run cell t hall table
 part-of-seventeen = refl
 
 -- server 20 is not of the hall
 part-of-twenty : partRefusal hall (table 2) 20 ≡ 2
-unfolding refusal valid nFits kFits bFits tableLength servers t hall table
+unfolding refusal valid nFits kFits bFits countFits capacity racks tableLength servers t hall table
 part-of-twenty = refl

@@ -15,6 +15,8 @@ use Rattle.ports.specs.Codes.{part, tableLength}
 use Rattle.ports.specs.Links.{bothUp}
 use Rattle.ports.proofs.Parts.{Sound}
 use Rattle.ports.proofs.Links.{joined-more, joined-at}
+use Rattle.counted.specs.Counted.{counted}
+use Rattle.counted.proofs.Counted.{counted-length}
 use Rattle.local.proofs.Uids.{linked-hall}
 use Rattle.local.specs.Local.{placeOf, linked}
 use Rattle.ends.specs.Tables.{stepTable, cellPart}
@@ -31,7 +33,7 @@ use Rattle.forward.proofs.Hops.{Forwards, step-forwards}
 use Rattle.forward.proofs.Sight.{seen-links, usable-own}
 use Rattle.promises.specs.Journeys.{Usable}
 use Rattle.promises.specs.Journeys as journeys
-use Rattle.promises.specs.AnyCodes.{Means, means-delivered, means-ttl, means-route, means-retry, means-proxy, AnyCodes, RetrySpent}
+use Rattle.promises.specs.AnyCodes.{Means, means-delivered, means-ttl, means-route, means-retry, means-proxy, Kept, AnyCodes, RetrySpent}
 
 pub tidied-fits : (h : Hall) (p : Packet) → Fits h p → Fits h (tidied p)
 tidied-fits h p f =
@@ -88,8 +90,19 @@ means h table at p final-drop-route q = means-route (drop-route-means h (sight h
 means h table at p final-drop-retry q = means-retry (drop-retry-means h (sight h table at) at (tidied p) q)
 means h table at p final-drop-proxy q = means-proxy (drop-proxy-means h (sight h table at) at (tidied p) q)
 
-pub any-codes : AnyCodes
-any-codes h table source p s =
+-- a hall table as its codes count is one too
+pub sound-counted : (h : Hall) (table : List ℕ) (source : ℕ) (p : Packet) → journeys.Sound h table source p → journeys.Sound h (counted h 0 table) source p
+sound-counted h table source p s = record {
+  hall-valid = s .hall-valid;
+  table-long = counted-length h 0 table ∙ s .table-long;
+  source-in = s .source-in;
+  dst-in = s .dst-in;
+  proxy-in = s .proxy-in;
+}
+
+-- over any hall table
+kept : (h : Hall) (table : List ℕ) (source : ℕ) (p : Packet) → journeys.Sound h table source p → Kept h table source p
+kept h table source p s =
     let w = trip-travels h table source p in
     let l = trip-last h table w in
     record {
@@ -111,6 +124,9 @@ any-codes h table source p s =
       links-few = links-within h table w;
       reroutes-few = reroutes-within h table w;
     }
+
+pub any-codes : AnyCodes
+any-codes h table source p s = kept h (counted h 0 table) source p (sound-counted h table source p s)
 
 -- drop 3 is the only ending of its number
 spent-then : (h : Hall) (table : List ℕ) (at : ℕ) (p : Packet) {e : ℕ} → Means h table at p e → e ≡ drop-retry

@@ -34,6 +34,7 @@ use Rattle.local.proofs.Sizes.{place-fits}
 use Rattle.local.proofs.Short.{AllUp, all-up-reached, all-up-between, all-up-local, all-up-table, all-up-part, all-up-agree, towards-agree}
 use Rattle.ends.specs.Tables.{stepTable, cellPart}
 use Rattle.ends.proofs.Tables.{near-part}
+use Rattle.counted.proofs.Counted.{counted-full}
 use Rattle.forward.specs.declared.Packet.{Packet}
 use Rattle.forward.specs.declared.Step.{Step}
 use Rattle.forward.specs.Packets.{forwarded, delivered, cleared, tidied, isArrived, goal, aged}
@@ -330,5 +331,6 @@ module _ (h : Hall) (table : List ℕ) (source : ℕ) (p : Packet) (s : Sound h 
         no-reroute = gone .no-reroutes;
       }
 
+-- in a full hall every code counts as it stands
 pub every-up-delivers : AllDelivered
-every-up-delivers = delivered-all
+every-up-delivers h table source p s full all bare enough = rw (counted-full h 0 table full) (delivered-all h table source p s all bare enough)

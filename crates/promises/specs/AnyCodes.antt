@@ -1,9 +1,10 @@
 -- Demand 3 with any codes: how a journey ends and what that means, which links it crosses, and how many.
--- Sections "One forwarding step" and "What the promises settle".
+-- Sections "One forwarding step" and "What the promises settle"; request K5.
 use mathlib.Core.Path.{_≡_}
 use mathlib.Core.List.{List, [], _∷_, _++_}
 use Prim.Native.Nat.{ℕ, _+_, _-_, _≤_}
 use Rattle.hall.specs.declared.Hall.{Hall}
+use Rattle.counted.specs.Counted.{counted}
 use Rattle.route.specs.Routes.{hops}
 use Rattle.route.specs.Walks.{Each}
 use Rattle.forward.specs.declared.Packet.{Packet}
@@ -48,9 +49,9 @@ pub record Kept (h : Hall) (table : List ℕ) (source : ℕ) (p : Packet) : Type
   pub links-few : trip h table source p .links ≤ p .ttl
   pub reroutes-few : trip h table source p .reroutes ≤ p .retry - 1
 
--- for every valid hall, every hall table of the right length, and every packet with any proxy of the hall
+-- for every valid hall, full or not, every hall table of the right length as its codes count, and every packet with any proxy of the hall
 abbrev pub AnyCodes : Type 0
-AnyCodes = (h : Hall) (table : List ℕ) (source : ℕ) (p : Packet) → Sound h table source p → Kept h table source p
+AnyCodes = (h : Hall) (table : List ℕ) (source : ℕ) (p : Packet) → Sound h table source p → Kept h (counted h 0 table) source p
 
 -- so no journey is dropped for a spent retry while more than one of it is left: the reroutes took all but one
 abbrev pub RetrySpent : Type 0

@@ -12,6 +12,7 @@ use Rattle.hall.specs.Halls.{valid, servers}
 use Rattle.hall.specs.Refusals.{most-retry}
 use Rattle.ports.specs.Codes.{code-up, codeOf, tableLength, part, SameUps, EveryUp}
 use Rattle.ports.specs.Links.{bothUp}
+use Rattle.counted.specs.Counted.{counted}
 use Rattle.route.specs.Routes.{hops}
 use Rattle.route.specs.Walks.{Each}
 use Rattle.local.specs.Local.{cellSize, firstOf}
@@ -36,7 +37,7 @@ EndsUp h table u v = (codeOf h table u (lowest (h .n) (h .k) u v) ≡ code-up) �
 -- no journey crosses a link of which either end has another code
 abbrev pub EveryEndUp : Type 0
 EveryEndUp = (h : Hall) (table : List ℕ) (source : ℕ) (p : Packet) → Sound h table source p
-    → Each (λ e. EndsUp h table (e .0) (e .1)) (hops (trip h table source p .uids))
+    → Each (λ e. EndsUp h table (e .0) (e .1)) (hops (trip h (counted h 0 table) source p .uids))
 
 -- two hall tables have the same bytes for a server's step: those of its DCell(b), and the far port's for each server of it and each level above b
 pub record SameBytes (h : Hall) (a b : List ℕ) (me : ℕ) : Type 0 where
@@ -45,18 +46,21 @@ pub record SameBytes (h : Hall) (a b : List ℕ) (me : ℕ) : Type 0 where
 
 -- the step of a server rests on these bytes alone, and of them only on which are 1
 pub record StepRests (h : Hall) (a b : List ℕ) (me : ℕ) (p : Packet) : Type 0 where
-  pub on-bytes : SameBytes h a b me → stepAt h a me p ≡ stepAt h b me p
-  pub on-ups : SameUps (stepTable h a me) (stepTable h b me) → stepAt h a me p ≡ stepAt h b me p
+  pub on-bytes : SameBytes h a b me → stepAt h (counted h 0 a) me p ≡ stepAt h (counted h 0 b) me p
+  pub on-ups : SameUps (stepTable h a me) (stepTable h b me) → stepAt h (counted h 0 a) me p ≡ stepAt h (counted h 0 b) me p
 
 abbrev pub StepsRest : Type 0
-StepsRest = (h : Hall) (a b : List ℕ) (me : ℕ) (p : Packet) → StepRests h a b me p
+StepsRest = (h : Hall) (a b : List ℕ) (me : ℕ) (p : Packet) → Sound h a me p → Sound h b me p → StepRests h a b me p
 
--- a journey's step is what the call for a step answers over the table that its server is lent
+-- a journey's step is what the call for a step answers over the table that is written for its server, and over its bytes of the hall table
+pub record Lent (h : Hall) (table : List ℕ) (me : ℕ) (p : Packet) : Type 0 where
+  pub as-written : stepOf h me p (stepTable h (counted h 0 table) me) ≡ stepAt h (counted h 0 table) me p
+  pub as-it-stands : stepOf h me p (stepTable h table me) ≡ stepAt h (counted h 0 table) me p
+
 abbrev pub StepLent : Type 0
-StepLent = (h : Hall) (table : List ℕ) (me : ℕ) (p : Packet) → Sound h table me p → p .retry ≤ most-retry
-    → stepOf h me p (stepTable h table me) ≡ stepAt h table me p
+StepLent = (h : Hall) (table : List ℕ) (me : ℕ) (p : Packet) → Sound h table me p → p .retry ≤ most-retry → Lent h table me p
 
--- with every port up, step and journey are those of the rule of before
+-- with every port up, step and journey over a table as it stands are those of the rule of before; in a full hall every code stands as it counts
 pub record Unchanged (h : Hall) (table : List ℕ) (source : ℕ) (p : Packet) : Type 0 where
   pub step : stepAt h table source p ≡ stepBefore h table source p
   pub journey : trip h table source p ≡ tripBefore h table source p

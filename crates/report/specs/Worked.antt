@@ -4,7 +4,7 @@ use mathlib.Core.Path.{_≡_, refl}
 use mathlib.Core.Bool.{true, false}
 use mathlib.Core.List.{[], _∷_}
 use lib.ListN.{replicate}
-use Rattle.hall.specs.Halls.{hallOf}
+use Rattle.hall.specs.Halls.{fullHall}
 use Rattle.forward.specs.Packets.{delivered}
 use Rattle.report.specs.Texts.{digitsWithin, decimal, numberWith, hallLine, refusedLine, endLine, endingText, uidsText, packetHead, packetLine}
 use Rattle.words.specs.Rooms.{roomy}
@@ -22,7 +22,7 @@ unfolding decimal digitsWithin
 with-a-zero = refl
 
 -- HALL 4 1 0
-hall : hallLine (hallOf 4 1 0) ≡ 72 ∷ 65 ∷ 76 ∷ 76 ∷ 32 ∷ 52 ∷ 32 ∷ 49 ∷ 32 ∷ 48 ∷ 10 ∷ []
+hall : hallLine (fullHall 4 1 0) ≡ 72 ∷ 65 ∷ 76 ∷ 76 ∷ 32 ∷ 52 ∷ 32 ∷ 49 ∷ 32 ∷ 48 ∷ 10 ∷ []
 unfolding hallLine numberWith decimal digitsWithin
 hall = refl
 

@@ -4,7 +4,7 @@ use mathlib.Core.Path.{_≡_, refl}
 use mathlib.Core.List.{List, [], _∷_, map}
 use Prim.Native.Nat.{ℕ}
 use Rattle.hall.specs.Cells.{t, cell, same, sub, port, end, near, far, lowest}
-use Rattle.hall.specs.Halls.{hallOf, nFits, kFits, bFits, valid, servers}
+use Rattle.hall.specs.Halls.{racks, capacity, fullHall, nFits, kFits, bFits, countFits, valid, servers}
 use Rattle.hall.specs.Refusals.{refusal}
 use Rattle.route.specs.declared.Crossing.the-variants.{Link}
 use Rattle.route.specs.Routes.{route, hops}
@@ -26,18 +26,18 @@ unfolding route same near far end port sub cell t
 routes = refl
 
 -- the answer of the call, zeros behind the uids
-pub route-between-0-19 : routeBetween (hallOf 4 1 0) 0 19
+pub route-between-0-19 : routeBetween (fullHall 4 1 0) 0 19
     ≡ record { refusal = 0; links = 3; uids = 0 ∷ 3 ∷ 16 ∷ 19 ∷ 0 ∷ 0 ∷ 0 ∷ 0 ∷ 0 ∷ 0 ∷ 0 ∷ 0 ∷ 0 ∷ 0 ∷ 0 ∷ 0 ∷ [] }
-unfolding padded inHall route same near far end port sub cell t valid nFits kFits bFits servers refusal
+unfolding padded inHall route same near far end port sub cell t valid nFits kFits bFits countFits capacity racks servers refusal
 route-between-0-19 = refl
 
 -- 20 is no server of the hall of n = 4, k = 1
-pub route-between-20 : routeBetween (hallOf 4 1 0) 0 20
+pub route-between-20 : routeBetween (fullHall 4 1 0) 0 20
     ≡ record { refusal = 2; links = 0; uids = 0 ∷ 0 ∷ 0 ∷ 0 ∷ 0 ∷ 0 ∷ 0 ∷ 0 ∷ 0 ∷ 0 ∷ 0 ∷ 0 ∷ 0 ∷ 0 ∷ 0 ∷ 0 ∷ [] }
-unfolding padded inHall route same near far end port sub cell t valid nFits kFits bFits servers refusal
+unfolding padded inHall route same near far end port sub cell t valid nFits kFits bFits countFits capacity racks servers refusal
 route-between-20 = refl
 
 -- the first link above level 0 and above level 1, in the hall of n = 2, k = 2
-pub first-5-11 : (firstLink (hallOf 2 2 0) 5 11 ≡ Link 4 1 1) × (firstLink (hallOf 2 2 1) 5 11 ≡ Link 0 6 2)
-unfolding firstLink firstAbove firstAmong hops lowest route same near far end port sub cell t valid nFits kFits bFits servers
+pub first-5-11 : (firstLink (fullHall 2 2 0) 5 11 ≡ Link 4 1 1) × (firstLink (fullHall 2 2 1) 5 11 ≡ Link 0 6 2)
+unfolding firstLink firstAbove firstAmong hops lowest route same near far end port sub cell t valid nFits kFits bFits countFits capacity racks servers
 first-5-11 = (refl, refl)

@@ -13,19 +13,20 @@ use borrow.Author.Tests.{leb-true, le-leb, eqb-true, ltb-true, ltb-false}
 use Rattle.combine.specs.Tests.{pick}
 use Rattle.combine.proofs.Tests.{cases, never}
 use Rattle.hall.specs.declared.Hall.{Hall}
-use Rattle.hall.specs.Halls.{hallOf, nFits, kFits, bFits, valid, servers}
-use Rattle.hall.specs.Refusals.{bad-hall, bad-length}
+use Rattle.hall.specs.Halls.{hallOf, servers}
+use Rattle.hall.specs.Refusals.{bad-length}
 use Rattle.ports.specs.Codes.{known, tableLength, up, codeOf}
 use Rattle.ports.proofs.Tables.{up-is-one, one-is-up}
 use Rattle.sheet.specs.declared.Field.{Field}
 use Rattle.sheet.specs.declared.Field.the-variants.{Value, Refused}
-use Rattle.words.specs.Words.{value, Bytes}
+use Rattle.words.specs.Words.{Bytes}
 use Rattle.sheet.specs.Formats.{Format, and-then, read}
-use Rattle.sheet.specs.Sheets.{longest, count, number-n, number-k, number-b, packet, tablesOf, nightSheet}
+use Rattle.sheet.specs.Sheets.{longest, first-count, count, number-n, number-k, number-b, fitted, packet, tablesOf, nightSheet}
 use Rattle.sheet.specs.Answers.{countPlace, codesPlace, codeCountOf, hallIn, acceptedAs, sheetOf}
 use Rattle.sheet.proofs.Reading.{onward, read-then, then-refused, field-read}
-use Rattle.sheet.proofs.Places.{codes-behind, count-place}
-use Rattle.sheet.proofs.Accepted.{field-then, packet-read}
+use Rattle.sheet.proofs.Places.{codes-behind}
+use Rattle.sheet.proofs.Heads.{hall-read}
+use Rattle.sheet.proofs.Accepted.{packet-read}
 use Rattle.sheetparts.specs.declared.SheetPacket.{SheetPacket}
 use Rattle.sheetparts.specs.Parts.{codesOf, packetPart}
 use Rattle.laying.proofs.Lists.{every-append, every-same, every-mapped}
@@ -87,17 +88,13 @@ kept-sound h s i e = by (read (packet (servers h)) s (packetThere h s i)) refl e
     by (Refused number place) d e = never {b = false} e refl
 
 pub head-held : (s : List ℕ) (v next : ℕ) → read headSheet s 0 ≡ Value v next → HeadHeld s
-unfolding headSheet valid
+unfolding headSheet
 head-held s v next e =
-    let a = field-then 4 (λ x. eqb x 3) bad-length _ s 0 v next e in
-    let n = field-then 1 nFits bad-hall _ s 4 v next (a .2) in
-    let k = field-then 1 (kFits (value s 4 1)) bad-hall _ s 5 v next (n .2) in
-    let b = field-then 1 (bFits (value s 5 1)) bad-hall _ s 6 v next (k .2) in
-    let first = eqb-true (value s 0 4) 3 (a .1) in
-    let t = field-read 4 (λ x. eqb x (tableLength (hallIn s))) bad-length s (countPlace s) v next (rw (count-place s first) (b .2)) in
+    let r = hall-read (λ h. count (tableLength h)) s v next e in
+    let t = field-read 4 (λ x. eqb x (tableLength (hallIn s))) bad-length s (countPlace s) v next (r .1) in
     record {
-      first = first;
-      hall = rw (n .1, k .1, b .1);
+      first = r .0 .first;
+      hall = r .0 .hall;
       second = eqb-true (codeCountOf s) (tableLength (hallIn s)) (sym (ap (λ (x : ℕ). eqb x (tableLength (hallIn s))) (t .2)) ∙ t .1);
       there = omega (arith, t .0, codes-behind s);
     }
@@ -117,8 +114,9 @@ then-alike f g i s at number place h e =
 pub head-refused : (s : List ℕ) (number place : ℕ) → read headSheet s 0 ≡ Refused number place → read nightSheet s 0 ≡ Refused number place
 unfolding headSheet nightSheet tablesOf
 head-refused s number place =
-    then-alike (count 3) _ _ s 0 number place (λ v a. then-alike number-n _ _ s a number place (λ n a. then-alike (number-k n) _ _ s a number place
-    (λ k a. then-alike (number-b k) _ _ s a number place (λ b a. then-refused (count (tableLength (hallOf n k b))) _ s a number place))))
+    then-alike first-count _ _ s 0 number place (λ first a. then-alike number-n _ _ s a number place (λ n a. then-alike (number-k n) _ _ s a number place
+    (λ k a. then-alike (number-b k) _ _ s a number place (λ b a. then-alike (fitted first n k) _ _ s a number place
+    (λ so-many a. then-refused (count (tableLength (hallOf n k b so-many))) _ s a number place)))))
 
 -- the rebuilt sheet is accepted, and is read to the mended codes and the kept packets
 module _ (s : List ℕ) (b : Bytes s) (head : HeadHeld s) where

@@ -1,5 +1,5 @@
 -- A spoiled sheet rebuilt: its codes mended, the packets that the reader accepts kept, and what was changed and left out.
--- Request K11.
+-- Requests K11 and K5.
 use mathlib.Core.Path.{_≡_}
 use mathlib.Core.Bool.{Bool, true, false, not}
 use mathlib.Core.List.{List, [], _∷_, _++_, map}
@@ -8,15 +8,15 @@ use lib.Dec.{eqb, ltb}
 use lib.ListN.{length, getD, take, drop, replicate}
 use Rattle.combine.specs.Tests.{pick, both}
 use Rattle.hall.specs.declared.Hall.{Hall}
-use Rattle.hall.specs.Halls.{hallOf, valid, servers}
+use Rattle.hall.specs.Halls.{valid, servers}
 use Rattle.hall.specs.Refusals.{bad-sheet}
 use Rattle.ports.specs.Codes.{not-fitted, code-down, known, tableLength}
 use Rattle.sheet.specs.declared.Field.{Field}
 use Rattle.sheet.specs.declared.Field.the-variants.{Value, Refused}
 use Rattle.sheet.specs.declared.Sheet.{Sheet}
 use Rattle.words.specs.Words.{value, wordAt}
-use Rattle.sheet.specs.Formats.{Format, and-then, read}
-use Rattle.sheet.specs.Sheets.{longest, count, number-n, number-k, number-b, packet}
+use Rattle.sheet.specs.Formats.{Format, read}
+use Rattle.sheet.specs.Sheets.{longest, sectionOf, count, packet, hallThen}
 use Rattle.sheet.specs.Answers.{codesPlace, codeCountOf, hallIn, refusedAt}
 use Rattle.sheetparts.specs.declared.SheetPacket.{SheetPacket}
 use Rattle.sheetparts.specs.Parts.{packetPart}
@@ -24,13 +24,11 @@ use Rattle.writing.specs.Writing.{sheetFor, toldFor}
 
 -- a salvage needs a sound first section and second count
 unfoldable pub headSheet : Format
-headSheet =
-    and-then (count 3) (λ v. and-then number-n (λ n. and-then (number-k n) (λ k. and-then (number-b k) (λ b.
-    count (tableLength (hallOf n k b))))))
+headSheet = hallThen (λ h. count (tableLength h))
 
 -- what a sound first section and second count say
 pub record HeadHeld (s : List ℕ) : Type 0 where
-  pub first : value s 0 4 ≡ 3
+  pub first : value s 0 4 ≡ sectionOf (hallIn s)
   pub hall : valid (hallIn s) ≡ true
   pub second : codeCountOf s ≡ tableLength (hallIn s)
   pub there : codesPlace s ≤ length s

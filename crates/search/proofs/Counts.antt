@@ -112,6 +112,24 @@ module _ (none : ℕ) (old : List ℕ) where
           let same = last-keep n (omega arith) in
           ⊎-elim (λ (f : Nobody n). absurd (omega (arith, f .1))) (λ (w : InLast n). inr (w .0, omega (arith, w .1), w .2 ∙ sym same, w .3)) before)
 
+  -- nobody from m on is reached: those before m are all to count
+  module _ (m : ℕ) where
+    pub reached-front : (n : ℕ) → m ≤ n → ((v : ℕ) → m ≤ v → v < n → getD old v 0 ≡ none) → reachedCount none old n ≡ reachedCount none old m
+    reached-front zero h f = let z : m ≡ 0 = omega arith in rw z
+    reached-front (suc n) h f =
+        ⊎-elim
+        (λ q. rw q)
+        (λ l. rw (sym (add-one n)) (reached-skip n (f n (omega arith) (omega arith)) ∙ reached-front n (omega arith) (λ v i k. f v i (omega arith))))
+        (eq-or-lt-of-le h)
+
+    pub last-front : (n : ℕ) → m ≤ n → ((v : ℕ) → m ≤ v → v < n → getD old v 0 ≡ none) → lastRound none old n ≡ lastRound none old m
+    last-front zero h f = let z : m ≡ 0 = omega arith in rw z
+    last-front (suc n) h f =
+        ⊎-elim
+        (λ q. rw q)
+        (λ l. rw (sym (add-one n)) (last-skip n (f n (omega arith) (omega arith)) ∙ last-front n (omega arith) (λ v i k. f v i (omega arith))))
+        (eq-or-lt-of-le h)
+
   pub last-reached : (n v : ℕ) → v < n → (getD old v 0 ≡ none → ⊥) → InLast n
   last-reached n v h e = ⊎-elim (λ (f : Nobody n). absurd (e (f .0 v h))) (λ w. w) (nobody-or-last n)
 

@@ -10,3 +10,4 @@ pub mod Stops
 pub mod Loop
 pub mod Meets
 pub mod Counts
+pub mod Cut

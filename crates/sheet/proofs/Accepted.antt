@@ -4,16 +4,15 @@ use mathlib.Core.Bool.{Bool, true}
 use mathlib.Core.List.{List}
 use Prim.Native.Nat.{ℕ, zero, suc, _+_, _-_, _*_, _≤_, _<_}
 use native.Mathlib.Omega.{arith}
-use lib.Dec.{eqb, leb, ltb}
+use lib.Dec.{leb, ltb}
 use lib.ListN.{length}
 use borrow.Author.Tests.{ltb-true, leb-true, lt-ltb, le-leb}
-use Rattle.hall.specs.Halls.{nFits, kFits, bFits}
-use Rattle.hall.specs.Refusals.{bad-hall, bad-uid, bad-length, bad-retry, bad-sheet, most-retry}
+use Rattle.hall.specs.Refusals.{bad-uid, bad-retry, bad-sheet, most-retry}
 use Rattle.sheet.specs.declared.Field.{Field}
 use Rattle.sheet.specs.declared.Field.the-variants.{Value, Refused}
 use Rattle.words.specs.Words.{value}
 use Rattle.sheet.specs.Formats.{Format, done, field, and-then, read}
-use Rattle.sheet.specs.Sheets.{retry, times, packet, nightSheet}
+use Rattle.sheet.specs.Sheets.{retry, times, packet}
 use Rattle.sheet.proofs.Reading.{onward, read-done, read-sound, read-wrong, read-cut, read-cases, read-then, field-read, then-value, any-there, times-none}
 
 -- a format behind another that was read to its end: so was each
@@ -45,15 +44,6 @@ pub then-sound : (width : ℕ) (sound : ℕ → Bool) (number : ℕ) (g : ℕ �
     → read (and-then (field width sound number done) g) s at ≡ read (g (value s at width)) s (at + width)
 unfolding and-then
 then-sound width sound number g s at h t = read-sound s width sound number g at h t
-
--- what is read of a sheet up to the second count
-pub head-there : (s : List ℕ) (v next : ℕ) → read nightSheet s 0 ≡ Value v next → 7 ≤ length s
-unfolding nightSheet
-head-there s v next e =
-    let a = field-then 4 (λ x. eqb x 3) bad-length _ s 0 v next e in
-    let b = field-then 1 nFits bad-hall _ s 4 v next (a .2) in
-    let d = field-then 1 (kFits (value s 4 1)) bad-hall _ s 5 v next (b .2) in
-    field-then 1 (bFits (value s 5 1)) bad-hall _ s 6 v next (d .2) .0
 
 -- a packet that was read: what its fields are
 pub record PacketRead (limit : ℕ) (s : List ℕ) (at next : ℕ) : Type 0 where

@@ -7,11 +7,10 @@ use native.Mathlib.Omega.{arith}
 use lib.Dec.{eqb, ltb}
 use lib.ListN.{length}
 use borrow.Author.Tests.{eqb-true, eq-eqb, ltb-true, ltb-false, le-ltb}
-use Rattle.combine.specs.Tests.{both}
-use Rattle.combine.proofs.Tests.{cases, both-left, both-right}
+use Rattle.combine.proofs.Tests.{cases}
 use Rattle.hall.specs.declared.Hall.{Hall}
-use Rattle.hall.specs.Halls.{nFits, kFits, bFits, valid, servers}
-use Rattle.hall.specs.Refusals.{bad-hall, bad-length, bad-code}
+use Rattle.hall.specs.Halls.{servers}
+use Rattle.hall.specs.Refusals.{bad-length, bad-code}
 use Rattle.ports.specs.Codes.{known, tableLength}
 use Rattle.sheet.specs.declared.Field.{Field}
 use Rattle.sheet.specs.declared.Field.the-variants.{Value, Refused}
@@ -19,13 +18,14 @@ use Rattle.words.specs.Words.{value}
 use Rattle.sheet.specs.Formats.{read}
 use Rattle.sheet.specs.Sheets.{longest, code, retry, codes, packet, packets, tablesOf, nightSheet}
 use Rattle.sheet.specs.Answers.{countPlace, codesPlace, codeCountOf, hallIn, acceptedAs, sheetOf, packetPlace}
-use Rattle.sheet.specs.Accepted.{packetCountOf, PacketFits, Accepted}
+use Rattle.sheet.specs.Accepted.{packetCountOf, PacketFits, Head, Accepted}
 use Rattle.sheet.proofs.Reading.{placeOf, read-done, field-read, field-sound, then-value, within}
 use Rattle.sheet.proofs.Sheets.{sheet-long, sheet-refused, sheet-surplus, sheet-read}
 use Rattle.sheet.proofs.Accepted.{then-read, field-then, then-sound, packet-read, packet-sound, times-width, times-each, times-all}
 use Rattle.sheet.proofs.Codes.{code-width}
 use Rattle.sheet.proofs.Numbers.{refused-by-some}
-use Rattle.sheet.proofs.Places.{count-place, codes-place}
+use Rattle.sheet.proofs.Places.{codes-behind}
+use Rattle.sheet.proofs.Heads.{hall-read, hall-sound}
 
 -- an accepted sheet was read to its end
 pub accepted-read : (s : List ℕ) → sheetOf s .refusal ≡ 0 → (length s ≤ longest) × ((v : ℕ) × (read nightSheet s 0 ≡ Value v (length s)))
@@ -82,45 +82,14 @@ module _ (h : Hall) (s : List ℕ) (at v end : ℕ) (e : read (tablesOf h) s at 
         ends = omega (arith, qw);
       }
 
--- what was read up to its end: the hall, and the sections behind it
-module _ (s : List ℕ) (v end : ℕ) (e : read nightSheet s 0 ≡ Value v end) where
-  pub record Whole : Type 0 where
-    pub first : value s 0 4 ≡ 3
-    pub hall : valid (hallIn s) ≡ true
-    pub tables : Tables (hallIn s) s (countPlace s) end
-
-  pub whole-read : Whole
-  unfolding nightSheet valid
-  whole-read =
-      let a = field-then 4 (λ x. eqb x 3) bad-length _ s 0 v end e in
-      let n = field-then 1 nFits bad-hall _ s 4 v end (a .2) in
-      let k = field-then 1 (kFits (value s 4 1)) bad-hall _ s 5 v end (n .2) in
-      let b = field-then 1 (bFits (value s 5 1)) bad-hall _ s 6 v end (k .2) in
-      let first = eqb-true (value s 0 4) 3 (a .1) in
-      record {
-        first = first;
-        hall = rw (n .1, k .1, b .1);
-        tables = tables-held (hallIn s) s (countPlace s) v end (rw (count-place s first) (b .2));
-      }
-
 -- an accepted sheet holds what it should
 pub accepted-holds : (s : List ℕ) → sheetOf s .refusal ≡ 0 → Accepted s
-unfolding codesPlace packetPlace packetCountOf
+unfolding nightSheet codesPlace packetPlace packetCountOf
 accepted-holds s ok =
     let r = accepted-read s ok in
-    let w = whole-read s (r .1 .0) (length s) (r .1 .1) in
-    let t = w .tables in
-    record { short = r .0; first = w .first; hall = w .hall; second = t .second; codes = t .codes; packets = t .packets; whole = t .ends }
-
--- the hall's fields where it is valid
-pub hall-fields : (h : Hall) → valid h ≡ true → (nFits (h .n) ≡ true) × (kFits (h .n) (h .k) ≡ true) × (bFits (h .k) (h .b) ≡ true)
-unfolding valid
-hall-fields h e =
-    let rest = both-right (nFits (h .n)) (both (kFits (h .n) (h .k)) (bFits (h .k) (h .b))) e in (
-      both-left (nFits (h .n)) (both (kFits (h .n) (h .k)) (bFits (h .k) (h .b))) e,
-      both-left (kFits (h .n) (h .k)) (bFits (h .k) (h .b)) rest,
-      both-right (kFits (h .n) (h .k)) (bFits (h .k) (h .b)) rest,
-    )
+    let w = hall-read tablesOf s (r .1 .0) (length s) (r .1 .1) in
+    let t = tables-held (hallIn s) s (countPlace s) (r .1 .0) (length s) (w .1) in
+    record { short = r .0; first = w .0 .first; hall = w .0 .hall; second = t .second; codes = t .codes; packets = t .packets; whole = t .ends }
 
 -- a sheet that holds what it should is read to its end
 module _ (s : List ℕ) (a : Accepted s) where
@@ -160,17 +129,12 @@ module _ (s : List ℕ) (a : Accepted s) where
       ∙ then-value (packets (servers (hallIn s)) (value s third 4)) _ s (third + 4) 0 (length s) packets-read
       ∙ read-done (value s third 4) s (length s)
 
+  pub accepted-head : Head s
+  accepted-head = record { first = a .first; hall = a .hall; there = omega (arith, long, codes-behind s) }
+
   held-read : read nightSheet s 0 ≡ Value (packetCountOf s) (length s)
   unfolding nightSheet
-  held-read =
-      let l = long in
-      let c = codes-place s (a .first) in
-      let h = hall-fields (hallIn s) (a .hall) in
-      then-sound 4 (λ x. eqb x 3) bad-length _ s 0 (omega arith) (eq-eqb (value s 0 4) 3 (a .first))
-      ∙ then-sound 1 nFits bad-hall _ s 4 (omega arith) (h .0)
-      ∙ then-sound 1 (kFits (value s 4 1)) bad-hall _ s 5 (omega arith) (h .1)
-      ∙ then-sound 1 (bFits (value s 5 1)) bad-hall _ s 6 (omega arith) (h .2)
-      ∙ rw (← count-place s (a .first)) tables-read
+  held-read = hall-sound tablesOf s accepted-head ∙ tables-read
 
   -- and so it is accepted, with its hall and its number of packets
   pub holds-accepted : sheetOf s ≡ acceptedAs (hallIn s) (packetCountOf s)

@@ -6,4 +6,5 @@ pub mod Codes
 pub mod Faults
 pub mod Numbers
 pub mod Places
+pub mod Heads
 pub mod Held

@@ -7,9 +7,10 @@ use native.Mathlib.Omega.{arith}
 use lib.Dec.{eqb, leb, ltb}
 use lib.ListN.{length}
 use borrow.Author.Tests.{ltb-true, ltb-false}
-use Rattle.combine.proofs.Tests.{cases}
+use Rattle.combine.specs.Tests.{both, either}
+use Rattle.combine.proofs.Tests.{cases, pick-holds}
 use Rattle.hall.specs.declared.Hall.{Hall}
-use Rattle.hall.specs.Halls.{hallOf, nFits, kFits, bFits, servers}
+use Rattle.hall.specs.Halls.{hallOf, capacity, nFits, kFits, bFits, servers}
 use Rattle.hall.specs.Refusals.{bad-hall, bad-uid, bad-length, bad-code, bad-retry, bad-sheet, bad-address, most-retry}
 use Rattle.ports.specs.Codes.{known, tableLength}
 use Rattle.sheet.specs.declared.Field.{Field}
@@ -17,7 +18,7 @@ use Rattle.sheet.specs.declared.Field.the-variants.{Value, Refused}
 use Rattle.sheet.specs.declared.Sheet.{Sheet}
 use Rattle.words.specs.Words.{value}
 use Rattle.sheet.specs.Formats.{Format, done, field, and-then, read}
-use Rattle.sheet.specs.Sheets.{longest, any, code, times, packet, tablesOf, nightSheet}
+use Rattle.sheet.specs.Sheets.{longest, any, full-section, part-section, number-count, fitted, code, times, packet, tablesOf, nightSheet}
 use Rattle.sheet.specs.Answers.{sheetOf}
 use Rattle.sheet.proofs.Reading.{read-done, read-sound, read-wrong, read-cut, read-cases}
 use Rattle.sheet.proofs.Sheets.{sheet-long, sheet-refused, sheet-surplus, sheet-accepted}
@@ -76,14 +77,20 @@ module _ (P : ℕ → Type 0) where
         numbers-then (numbers-any 4) (λ packetCount.
         numbers-then (numbers-times (packet (servers h)) (numbers-packet (servers h)) packetCount) (λ v. at-end))))
 
+    numbers-fitted : (first n k : ℕ) → Numbers P (fitted first n k)
+    unfolding fitted
+    numbers-fitted first n k =
+        pick-holds (Numbers P) (eqb first part-section) (number-count n k) (done (capacity n k))
+        (numbers-field 4 (λ v. both (leb 2 k) (ltb v (capacity n k))) bad-hall of-hall) at-end
+
     pub numbers-sheet : Numbers P nightSheet
     unfolding nightSheet
     numbers-sheet =
-        numbers-then (numbers-field 4 (λ v. eqb v 3) bad-length of-length) (λ v.
+        numbers-then (numbers-field 4 (λ v. either (eqb v full-section) (eqb v part-section)) bad-length of-length) (λ first.
         numbers-then (numbers-field 1 nFits bad-hall of-hall) (λ n.
         numbers-then (numbers-field 1 (kFits n) bad-hall of-hall) (λ k.
         numbers-then (numbers-field 1 (bFits k) bad-hall of-hall) (λ b.
-        numbers-tables (hallOf n k b)))))
+        numbers-then (numbers-fitted first n k) (λ count. numbers-tables (hallOf n k b count))))))
 
     -- so P holds of the number that reading a sheet is refused by, where it holds of these and of 10
     pub refused-numbers : P bad-sheet → (s : List ℕ) (number place : ℕ) → read nightSheet s 0 ≡ Refused number place → P number

@@ -9,13 +9,12 @@ use lib.Dec.{leb}
 use lib.ListN.{length}
 use borrow.Author.Tests.{leb-true, leb-false, le-leb, lt-leb}
 use Rattle.combine.proofs.Tests.{cases}
-use Rattle.hall.specs.Refusals.{bad-hall, bad-sheet}
-use Rattle.hall.specs.Halls.{hallOf, nFits, kFits, bFits, valid}
+use Rattle.hall.specs.Refusals.{bad-sheet}
 use Rattle.sheet.specs.declared.Field.{Field}
 use Rattle.sheet.specs.declared.Field.the-variants.{Value, Refused}
 use Rattle.words.specs.Words.{value}
 use Rattle.sheet.specs.Formats.{Format, done, field, and-then, read}
-use Rattle.sheet.specs.Sheets.{any, number-n, number-k, number-b, times}
+use Rattle.sheet.specs.Sheets.{any, times}
 
 -- the next place, or the refusal's
 abbrev pub placeOf : Field → ℕ
@@ -177,14 +176,3 @@ field-read width sound number s at v next e =
 pub field-sound : (width : ℕ) (sound : ℕ → Bool) (number : ℕ) (s : List ℕ) (at : ℕ) → at + width ≤ length s → sound (value s at width) ≡ true
     → read (field width sound number done) s at ≡ Value (value s at width) (at + width)
 field-sound width sound number s at h t = read-sound s width sound number done at h t ∙ read-done (value s at width) s (at + width)
-
--- a hall whose n, k and b were read is valid
-pub valid-read : (s : List ℕ) (n k b at-n at-k at-b next-n next-k next-b : ℕ)
-    → read number-n s at-n ≡ Value n next-n → read (number-k n) s at-k ≡ Value k next-k → read (number-b k) s at-b ≡ Value b next-b
-    → valid (hallOf n k b) ≡ true
-unfolding valid
-valid-read s n k b at-n at-k at-b next-n next-k next-b en ek eb =
-    let fn = field-read 1 nFits bad-hall s at-n n next-n en .1 in
-    let fk = field-read 1 (kFits n) bad-hall s at-k k next-k ek .1 in
-    let fb = field-read 1 (bFits k) bad-hall s at-b b next-b eb .1 in
-    rw (fn, fk, fb)

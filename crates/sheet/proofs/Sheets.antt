@@ -2,15 +2,13 @@
 use mathlib.Core.Path.{_≡_, _∙_}
 use mathlib.Core.List.{List}
 use Prim.Native.Nat.{ℕ, _≤_, _<_}
-use lib.ListN.{length, getD}
+use lib.ListN.{length}
 use borrow.Author.Tests.{lt-ltb, le-ltb}
-use Rattle.hall.specs.Halls.{hallOf}
 use Rattle.hall.specs.Refusals.{bad-sheet}
 use Rattle.sheet.specs.declared.Field.the-variants.{Value, Refused}
 use Rattle.sheet.specs.Formats.{read}
 use Rattle.sheet.specs.Sheets.{longest, nightSheet}
-use Rattle.sheet.specs.Answers.{refusedAt, acceptedAs, told, sheetOf}
-use Rattle.words.proofs.Words.{value-one}
+use Rattle.sheet.specs.Answers.{hallIn, refusedAt, acceptedAs, told, sheetOf}
 
 module _ (s : List ℕ) where
   -- too long, whatever stands in it
@@ -30,5 +28,5 @@ module _ (s : List ℕ) where
       pub sheet-surplus : end < length s → sheetOf s ≡ refusedAt bad-sheet end
       sheet-surplus h = sheet-read ∙ rw (e, lt-ltb end (length s) h)
 
-      pub sheet-accepted : length s ≤ end → sheetOf s ≡ acceptedAs (hallOf (getD s 4 0) (getD s 5 0) (getD s 6 0)) packetCount
-      sheet-accepted h = sheet-read ∙ rw (e, le-ltb end (length s) h, value-one s 4, value-one s 5, value-one s 6)
+      pub sheet-accepted : length s ≤ end → sheetOf s ≡ acceptedAs (hallIn s) packetCount
+      sheet-accepted h = sheet-read ∙ rw (e, le-ltb end (length s) h)

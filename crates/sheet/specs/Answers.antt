@@ -1,11 +1,11 @@
 -- What reading a sheet answers.
--- Sections "The night sheet" and "Refusal numbers".
+-- Sections "The night sheet" and "Refusal numbers"; request K5.
 use mathlib.Core.List.{List}
 use Prim.Native.Nat.{ℕ, _+_, _*_}
-use lib.Dec.{ltb}
+use lib.Dec.{eqb, ltb}
 use lib.ListN.{length}
-use Rattle.hall.specs.Halls.{hallOf}
 use Rattle.combine.specs.Tests.{pick}
+use Rattle.hall.specs.Halls.{hallOf, capacity}
 use Rattle.hall.specs.declared.Hall.{Hall}
 use Rattle.hall.specs.Refusals.{bad-sheet}
 use Rattle.sheet.specs.declared.Field.{Field}
@@ -13,9 +13,9 @@ use Rattle.sheet.specs.declared.Field.the-variants.{Value, Refused}
 use Rattle.sheet.specs.declared.Sheet.{Sheet}
 use Rattle.words.specs.Words.{value}
 use Rattle.sheet.specs.Formats.{read}
-use Rattle.sheet.specs.Sheets.{longest, nightSheet}
+use Rattle.sheet.specs.Sheets.{longest, full-section, part-section, nightSheet}
 
--- the first bytes of n, k and b
+-- the first bytes of n, k and b, and of the count where the first section has 7 bytes
 abbrev pub place-n : ℕ
 place-n = 4
 
@@ -25,9 +25,16 @@ place-k = 5
 abbrev pub place-b : ℕ
 place-b = 6
 
--- the first byte of the second count, behind the first count and the 3 bytes of its section
+abbrev pub place-count : ℕ
+place-count = 7
+
+-- the bytes of the first section: 7 where the first count says so, else 3
+abbrev pub sectionBytes : List ℕ → ℕ
+sectionBytes s = pick (eqb (value s 0 4) part-section) part-section full-section
+
+-- the first byte of the second count, behind the first count and its section
 unfoldable pub countPlace : List ℕ → ℕ
-countPlace s = 4 + 3
+countPlace s = 4 + sectionBytes s
 
 -- and of the hall table, behind the second count
 unfoldable pub codesPlace : List ℕ → ℕ
@@ -37,13 +44,17 @@ codesPlace s = countPlace s + 4
 abbrev pub codeCountOf : List ℕ → ℕ
 codeCountOf s = value s (countPlace s) 4
 
+-- the DCell1s fitted: the count that a section of 7 bytes carries, else all
+unfoldable pub fittedIn : List ℕ → ℕ
+fittedIn s = pick (eqb (value s 0 4) part-section) (value s place-count 4) (capacity (value s place-n 1) (value s place-k 1))
+
 -- the hall that a sheet's bytes name
 abbrev pub hallIn : List ℕ → Hall
-hallIn s = hallOf (value s place-n 1) (value s place-k 1) (value s place-b 1)
+hallIn s = hallOf (value s place-n 1) (value s place-k 1) (value s place-b 1) (fittedIn s)
 
 -- a refused sheet: number and place, and zero in every other field
 abbrev pub refusedAt : ℕ → ℕ → Sheet
-refusedAt number place = record { refusal = number; place = place; hall = hallOf 0 0 0; packets = 0 }
+refusedAt number place = record { refusal = number; place = place; hall = hallOf 0 0 0 0; packets = 0 }
 
 -- an accepted one: its hall and its number of packets
 abbrev pub acceptedAs : Hall → ℕ → Sheet

@@ -11,6 +11,8 @@ use crate::fields::read_b;
 use crate::fields::read_byte;
 use crate::fields::read_code;
 use crate::fields::read_count;
+use crate::fields::read_first;
+use crate::fields::read_fitted;
 use crate::fields::read_k;
 use crate::fields::read_n;
 use crate::fields::read_retry;
@@ -119,8 +121,8 @@ pub(crate) fn read_whole(sheet: &[u8]) -> Field
     requires { ⌜ length (now sheet) ≤ longest ⌝ }
     ensures { λ r. ⌜ r ≡ read nightSheet (now (sheet .entry)) 0 ⌝ }
 {
-    let first = read_count(sheet, 0, 3);
-    let Field::Value(_, n_at) = first else {
+    let first = read_first(sheet);
+    let Field::Value(section, n_at) = first else {
         return first;
     };
     let n_field = read_n(sheet, n_at);
@@ -132,8 +134,12 @@ pub(crate) fn read_whole(sheet: &[u8]) -> Field
         return k_field;
     };
     let b_field = read_b(sheet, b_at, k);
-    let Field::Value(b, second_at) = b_field else {
+    let Field::Value(b, count_at) = b_field else {
         return b_field;
     };
-    read_tables(sheet, second_at, Hall { n, k, b })
+    let count_field = read_fitted(sheet, count_at, section, n, k);
+    let Field::Value(count, second_at) = count_field else {
+        return count_field;
+    };
+    read_tables(sheet, second_at, Hall { n, k, b, count })
 }

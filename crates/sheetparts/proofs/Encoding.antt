@@ -6,22 +6,23 @@ use native.Mathlib.Omega.{arith}
 use lib.ListN.{length, take, drop, length-drop}
 use lib.Seq.{drop-length, length-take-le}
 use borrow.Author.Tests.{le-leb}
+use Rattle.combine.proofs.Tests.{cases}
 use Rattle.hall.specs.declared.Hall.{Hall}
-use Rattle.hall.specs.Halls.{servers}
+use Rattle.hall.specs.Halls.{hallOf, isFull, servers}
 use Rattle.sheet.specs.declared.Sheet.{Sheet}
 use Rattle.words.specs.Words.{value, Bytes, bytesOf}
 use Rattle.words.proofs.Words.{drop-bytes}
-use Rattle.sheet.specs.Formats.{done, and-then}
-use Rattle.sheet.specs.Sheets.{behindCodes, codes, packet, packets, times, tablesOf, nightSheet}
-use Rattle.sheet.specs.Answers.{countPlace, codesPlace, codeCountOf, hallIn, acceptedAs, sheetOf, packetPlace}
-use Rattle.sheet.specs.Accepted.{packetCountOf}
-use Rattle.sheet.proofs.Places.{count-place}
-use Rattle.sheet.proofs.Held.{accepted-read, accepted-holds, long, holds-accepted}
+use Rattle.sheet.specs.Formats.{Format, done, and-then}
+use Rattle.sheet.specs.Sheets.{fitted, behindCodes, codes, packet, packets, times, tablesOf, nightSheet}
+use Rattle.sheet.specs.Answers.{countPlace, codesPlace, codeCountOf, fittedIn, hallIn, acceptedAs, sheetOf, packetPlace}
+use Rattle.sheet.specs.Accepted.{packetCountOf, Head}
+use Rattle.sheet.proofs.Heads.{first-full, first-part}
+use Rattle.sheet.proofs.Held.{accepted-read, accepted-holds, accepted-head, long, holds-accepted}
 use Rattle.laying.specs.Filled.{laid, valuesIn}
 use Rattle.laying.proofs.Reading.{accepted-laid, values-then}
 use Rattle.sheetparts.specs.declared.SheetPacket.{SheetPacket}
 use Rattle.sheetparts.specs.Parts.{codesOf, packetPart, packetFields, packetAt}
-use Rattle.sheetparts.specs.Encoding.{packetsBytes, encodingOf}
+use Rattle.sheetparts.specs.Encoding.{packetsBytes, fittedBytes, encodingOf}
 use Rattle.sheetparts.proofs.Parts.{codes-there, codes-answered, packet-answered}
 
 -- packets that agree have the same bytes
@@ -71,10 +72,21 @@ module _ (s : List ℕ) (b : Bytes s) where
       ∙ ap (λ (m : ℕ). laid (valuesIn (codes so-many) s (at + 4)) ++ laid (valuesIn (behindCodes (servers h) 0) s (at + 4 + m))) n
       ∙ rw (c, behind-values s (servers h) (at + 4 + so-many) 0 l))
 
-  sheet-values : laid (valuesIn nightSheet s 0)
-      ≡ bytesOf 4 (value s 0 4) ++ (bytesOf 1 (value s 4 1) ++ (bytesOf 1 (value s 5 1) ++ (bytesOf 1 (value s 6 1) ++ laid (valuesIn (tablesOf (hallIn s)) s 7))))
+  fitted-values : Head s → (g : ℕ → Format) → laid (valuesIn (and-then (fitted (value s 0 4) (value s 4 1) (value s 5 1)) g) s 7)
+      ≡ fittedBytes (hallIn s) ++ laid (valuesIn (g (fittedIn s)) s (countPlace s))
+  unfolding laid valuesIn and-then fitted fittedIn countPlace fittedBytes
+  fitted-values head g =
+      cases (isFull (hallIn s))
+      (λ q. rw (q, first-full s head q))
+      (λ q. rw (q, first-part s head q))
+
+  sheet-values : Head s → laid (valuesIn nightSheet s 0)
+      ≡ bytesOf 4 (value s 0 4) ++ (bytesOf 1 (value s 4 1) ++ (bytesOf 1 (value s 5 1) ++ (bytesOf 1 (value s 6 1)
+      ++ (fittedBytes (hallIn s) ++ laid (valuesIn (tablesOf (hallIn s)) s (countPlace s))))))
   unfolding laid valuesIn nightSheet and-then
-  sheet-values = refl
+  sheet-values head =
+      ap (λ (m : List ℕ). bytesOf 4 (value s 0 4) ++ (bytesOf 1 (value s 4 1) ++ (bytesOf 1 (value s 5 1) ++ (bytesOf 1 (value s 6 1) ++ m))))
+      (fitted-values head (λ count. tablesOf (hallOf (value s 4 1) (value s 5 1) (value s 6 1) count)))
 
   -- so it is the sections one behind the other
   pub encoded : (codes : List ℕ) (packet : ℕ → SheetPacket) → sheetOf s .refusal ≡ 0
@@ -91,7 +103,7 @@ module _ (s : List ℕ) (b : Bytes s) where
       let t = tables-values (hallIn s) (countPlace s) (omega arith) in
       let p = packets-alike packet (packetFields s) 0 (packetCountOf s) (λ i h. each i (omega arith)) in
       w ∙ rw (drop-length s, append-nil (laid (valuesIn nightSheet s 0)))
-      (sheet-values ∙ rw (a .first, ← count-place s (a .first), t, ec, c, p) (simp append-assoc))
+      (sheet-values (accepted-head s a) ∙ rw (a .first, t, ec, c, p) (simp append-assoc))
 
   -- an accepted sheet is the encoding of what the calls answer of it
   pub accepted-encoding : sheetOf s .refusal ≡ 0 → s ≡ encodingOf (sheetOf s) (codesOf s) (packetAt s)

@@ -1,20 +1,39 @@
 -- Laws of the answers about codes and packets: what each is, by the test that decides it.
-use mathlib.Core.Path.{_≡_, _∙_}
+use mathlib.Core.Path.{_≡_, sym, _∙_}
 use mathlib.Core.List.{List, []}
 use Prim.Native.Nat.{ℕ, _+_, _-_, _*_, _≤_, _<_}
 use native.Mathlib.Omega.{arith}
-use lib.ListN.{length, getD, take, drop}
-use borrow.Author.Tests.{le-leb, lt-leb, lt-ltb, le-ltb, eq-eqb, ne-eqb}
+use lib.Dec.{eqb, leb}
+use lib.ListN.{length, getD, take, drop, List·getD-eq-default}
+use borrow.Author.Tests.{leb-true, leb-false, le-leb, lt-leb, lt-ltb, le-ltb, eq-eqb, ne-eqb}
+use Rattle.combine.proofs.Tests.{cases}
 use Rattle.hall.specs.Refusals.{bad-range}
 use Rattle.sheet.specs.declared.Sheet.{Sheet}
 use Rattle.words.specs.Words.{value, wordAt}
-use Rattle.words.proofs.Words.{value-one, word-there}
+use Rattle.words.proofs.Words.{value-one, value-four, word-there, word-cut}
+use Rattle.sheet.specs.Sheets.{full-section, part-section}
 use Rattle.sheet.specs.Answers.{countPlace, codesPlace, codeCountOf, sheetOf, packetPlace}
 use Rattle.sheet.proofs.Places.{codes-behind}
 use Rattle.sheetparts.specs.declared.SheetPacket.{SheetPacket}
 use Rattle.sheetparts.specs.Parts.{codesPart, codesOf, packetRefused, packetPart, packetFields, packetAt}
 
 module _ (s : List ℕ) where
+  -- the hall table's place, by the first count: where that is cut it is not 7
+  first-read : (first : ℕ) → first ≡ wordAt s 0 → eqb first part-section ≡ eqb (value s 0 4) part-section
+  first-read first e =
+      cases (leb 4 (length s))
+      (λ q. rw (e, word-there s 0 (leb-true 4 (length s) q)))
+      (λ q. let l = leb-false 4 (length s) q in
+      rw (e, word-cut s 0 l) (sym (ne-eqb (value s 0 4) part-section (λ z. omega (arith, value-four s 0, List·getD-eq-default s 0 {n = 3} (omega arith))))))
+
+  pub place-part : (first : ℕ) → first ≡ wordAt s 0 → first ≡ part-section → 4 + part-section + 4 ≡ codesPlace s
+  unfolding codesPlace countPlace
+  place-part first e t = rw (← first-read first e, eq-eqb first part-section t)
+
+  pub place-full : (first : ℕ) → first ≡ wordAt s 0 → (first ≡ part-section → ⊥) → 4 + full-section + 4 ≡ codesPlace s
+  unfolding codesPlace countPlace
+  place-full first e t = rw (← first-read first e, ne-eqb first part-section t)
+
   -- the second count, read before the hall table
   pub count-read : (place count : ℕ) → place ≡ codesPlace s → place ≤ length s → count ≡ wordAt s (place - 4) → count ≡ codeCountOf s
   count-read place count e h w =

@@ -3,13 +3,13 @@ ghost use mathlib.Core.Path.{_≡_};
 ghost use Rattle.sheet.specs.Answers.{codesPlace};
 ghost use Rattle.sheetparts.specs.Parts.{codesPart, codesOf, packetRefused, packetFields, packetAt};
 use hall::refusals::BAD_RANGE;
+use sheet::FULL_SECTION;
+use sheet::PART_SECTION;
 use sheet::read_sheet;
 use words::word_at;
 
-// The bytes of a count, and those of the first section.
+// The bytes of a count.
 const COUNT_BYTES: usize = 4;
-
-const HALL_BYTES: usize = 3;
 
 // A packet of a sheet; or the refusal, and its place.
 pub struct SheetPacket {
@@ -35,11 +35,14 @@ fn packet_refused(number: u32, place: u32) -> SheetPacket
     }
 }
 
-// The first byte of a sheet's hall table: behind the first section and the second count. It is the same in every sheet.
-fn codes_place(_sheet: &[u8]) -> usize
-    ensures { λ r. ⌜ r ≡ codesPlace (now («_sheet» .entry)) ⌝ }
+// The first byte of a sheet's hall table: behind the first section, which has the bytes that the first count says, and the second count.
+fn codes_place(sheet: &[u8]) -> usize
+    ensures { λ r. ⌜ r ≡ codesPlace (now (sheet .entry)) ⌝ }
 {
-    COUNT_BYTES + HALL_BYTES + COUNT_BYTES
+    if word_at(sheet, 0) == PART_SECTION {
+        return COUNT_BYTES + PART_SECTION as usize + COUNT_BYTES;
+    }
+    COUNT_BYTES + FULL_SECTION as usize + COUNT_BYTES
 }
 
 // As many bytes as the second count says, behind it; none where they are not there.

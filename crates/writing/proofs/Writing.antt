@@ -1,7 +1,7 @@
 -- What is written is read as the writer says.
 use Prim.{tt}
 use mathlib.Core.Path.{_≡_, refl, sym, _∙_, ap}
-use mathlib.Core.Bool.{Bool}
+use mathlib.Core.Bool.{Bool, true, false}
 use mathlib.Core.List.{List, [], _∷_, _++_, append-assoc, append-nil}
 use Prim.Native.Nat.{ℕ, zero, suc, _+_, _-_, _*_, _^_, _%_, _≤_, _<_}
 use native.Mathlib.Omega.{arith}
@@ -12,7 +12,7 @@ use borrow.Author.Tests.{ltb-true, ltb-false, lt-ltb, le-ltb, le-leb, lt-leb}
 use Rattle.combine.specs.Tests.{pick}
 use Rattle.combine.proofs.Tests.{cases}
 use Rattle.hall.specs.declared.Hall.{Hall}
-use Rattle.hall.specs.Halls.{nFits, kFits, bFits, servers}
+use Rattle.hall.specs.Halls.{hallOf, nFits, kFits, bFits, countFits, servers}
 use Rattle.hall.specs.Refusals.{bad-hall, bad-uid, bad-length, bad-code, bad-retry, most-retry}
 use Rattle.ports.specs.Codes.{known, firstUnknown, tableLength}
 use Rattle.sheet.specs.declared.Field.{Field}
@@ -21,16 +21,17 @@ use Rattle.sheet.specs.declared.Sheet.{Sheet}
 use Rattle.words.specs.Words.{value, bytesOf}
 use Rattle.words.proofs.Bytes.{bytes-long, value-laid, drop-laid}
 use Rattle.sheet.specs.Formats.{done, and-then}
-use Rattle.sheet.specs.Sheets.{behindCodes, longest, packet, packets, times, tablesOf, nightSheet}
-use Rattle.sheet.specs.Answers.{countPlace, codesPlace, codeCountOf, told, sheetOf}
-use Rattle.sheet.proofs.Places.{codes-behind, count-place}
+use Rattle.sheet.specs.Sheets.{behindCodes, longest, sectionOf, packet, packets, times, tablesOf, nightSheet}
+use Rattle.sheet.specs.Answers.{countPlace, codesPlace, codeCountOf, hallIn, told, sheetOf}
+use Rattle.sheet.proofs.Places.{codes-behind, section-sound, count-place}
 use Rattle.sheet.proofs.Reading.{onward}
 use Rattle.sheet.proofs.Sheets.{sheet-long, sheet-read}
 use Rattle.sheetparts.specs.declared.SheetPacket.{SheetPacket}
-use Rattle.sheetparts.specs.Encoding.{packetBytes, packetsBytes, encodingOf}
+use Rattle.sheetparts.specs.Encoding.{packetBytes, packetsBytes, fittedBytes, encodingOf}
 use Rattle.laying.proofs.Lists.{every-map}
 use Rattle.laying.specs.Filled.{ended, result, laid, judged, All, Fits, fill-then, each, joined, Every}
-use Rattle.writing.specs.Writing.{filledCode, filledPacket, filledSheet, sheetFor, toldFor, writerSays, listed, PacketHeld, Held, HallBytes, fieldsOf}
+use Rattle.writing.specs.Writing.{filledCode, filledPacket, filledFitted, filledTables, filledSheet, sheetFor, toldFor, writerSays, listed, PacketHeld, Held, HallBytes, fieldsOf}
+use Rattle.writing.proofs.Sections.{fitted-laid, fitted-long, same-hall, fitted-judged, fitted-fits, fitted-stands}
 use Rattle.laying.proofs.Reading.{read-laid, judged-all, judged-sound, laid-then, judged-then, each-next, all-then, laid-each, all-each}
 
 -- a code is its byte, and a packet its ten
@@ -59,12 +60,18 @@ packets-laid limit list = laid-each (filledPacket limit) list ∙ go list
     go (p ∷ l) = rw (packet-laid limit p, go l)
 
 -- the sections
+tables-laid : (h : Hall) (codes : List ℕ) (list : List SheetPacket) → Every (λ (c : ℕ). c < 256) codes
+    → laid (filledTables h codes list) ≡ bytesOf 4 (length codes) ++ (codes ++ (bytesOf 4 (length list) ++ joined packetBytes list))
+unfolding laid filledTables tablesOf and-then
+tables-laid h codes list e = rw (laid-then, codes-laid codes e, laid-then, packets-laid (servers h) list, append-nil)
+
 pub sheet-laid : (h : Hall) (codes : List ℕ) (list : List SheetPacket) → Every (λ (c : ℕ). c < 256) codes
     → sheetFor h codes list
-    ≡ bytesOf 4 3 ++ (bytesOf 1 (h .n) ++ (bytesOf 1 (h .k) ++ (bytesOf 1 (h .b) ++ (bytesOf 4 (length codes) ++ (codes
-    ++ (bytesOf 4 (length list) ++ joined packetBytes list))))))
-unfolding laid filledSheet nightSheet tablesOf and-then
-sheet-laid h codes list e = rw (laid-then, codes-laid codes e, laid-then, packets-laid (servers h) list, append-nil)
+    ≡ bytesOf 4 (sectionOf h) ++ (bytesOf 1 (h .n) ++ (bytesOf 1 (h .k) ++ (bytesOf 1 (h .b) ++ (fittedBytes h
+    ++ (bytesOf 4 (length codes) ++ (codes ++ (bytesOf 4 (length list) ++ joined packetBytes list)))))))
+unfolding laid filledSheet nightSheet and-then
+sheet-laid h codes list e =
+    rw (laid-then, fitted-laid h, tables-laid (hallOf (h .n) (h .k) (h .b) (result (filledFitted h))) codes list e)
 
 -- packets by their places
 pub packets-listed : (packet : ℕ → SheetPacket) (i so-many : ℕ) → joined packetBytes (listed packet i so-many) ≡ packetsBytes packet i so-many
@@ -111,15 +118,15 @@ sheet-encoding sheet codes packet e =
     sheet-laid (sheet .hall) codes (listed packet 0 (sheet .packets)) e
     ∙ rw (listed-long packet 0 (sheet .packets), packets-listed packet 0 (sheet .packets)) (simp append-assoc)
 
--- 15 bytes, a code a byte, and 10 a packet
+-- three counts, the first section, a code a byte, and 10 bytes a packet
 packets-long : (list : List SheetPacket) → length (joined packetBytes list) ≡ 10 * length list
 unfolding joined
 packets-long [] = refl
 packets-long (p ∷ list) = simp (length-append, bytes-long) (omega (arith, packets-long list))
 
 pub sheet-length : (h : Hall) (codes : List ℕ) (list : List SheetPacket) → Every (λ (c : ℕ). c < 256) codes
-    → length (sheetFor h codes list) ≡ 15 + length codes + 10 * length list
-sheet-length h codes list e = rw (sheet-laid h codes list e) (simp (length-append, bytes-long) (omega (arith, packets-long list)))
+    → length (sheetFor h codes list) ≡ 12 + sectionOf h + length codes + 10 * length list
+sheet-length h codes list e = rw (sheet-laid h codes list e) (simp (length-append, bytes-long) (omega (arith, packets-long list, fitted-long h)))
 
 -- where the sheet is not too long, its values fit their fields
 packet-fits : (limit : ℕ) (p : SheetPacket) → PacketHeld p → Fits (filledPacket limit p)
@@ -130,12 +137,27 @@ code-fits : (c : ℕ) → c < 256 → Fits (filledCode c)
 unfolding All
 code-fits c h = (h, tt)
 
+tables-fits : (h : Hall) (codes : List ℕ) (list : List SheetPacket) → Held codes list → length codes < 256 ^ 4 → length list < 256 ^ 4
+    → Fits (filledTables h codes list)
+unfolding All filledTables tablesOf and-then
+tables-fits h codes list held c l =
+    let P : ℕ → (ℕ → Bool) → ℕ → Type 0 = λ width sound v. v < 256 ^ width in (
+      c,
+      all-then P (behindCodes (servers h)) (each filledCode codes) _
+          (all-each P filledCode codes (every-map _ _ code-fits codes (held .bytes))) (
+            l,
+            all-then P (λ v. done (length list)) (each (filledPacket (servers h)) list) ended
+                (all-each P (filledPacket (servers h)) list (every-map _ _ (packet-fits (servers h)) list (held .fields))) tt,
+          ),
+    )
+
 module _ (h : Hall) (codes : List ℕ) (list : List SheetPacket) (held : Held codes list) (short : length (sheetFor h codes list) ≤ longest) where
   pub sheet-fits : HallBytes h → Fits (filledSheet h codes list)
-  unfolding All filledSheet nightSheet tablesOf and-then
+  unfolding All filledSheet nightSheet and-then
   sheet-fits bytes =
       let l = sheet-length h codes list (held .bytes) in
-      let P : ℕ → (ℕ → Bool) → ℕ → Type 0 = λ width sound v. v < 256 ^ width in (
+      let P : ℕ → (ℕ → Bool) → ℕ → Type 0 = λ width sound v. v < 256 ^ width in
+      let same : Hall = hallOf (h .n) (h .k) (h .b) (result (filledFitted h)) in (
         omega arith,
         (
           omega arith,
@@ -143,15 +165,8 @@ module _ (h : Hall) (codes : List ℕ) (list : List SheetPacket) (held : Held co
             omega arith,
             (
               omega arith,
-              (
-                omega arith,
-                all-then P (behindCodes (servers h)) (each filledCode codes) _
-                    (all-each P filledCode codes (every-map _ _ code-fits codes (held .bytes))) (
-                      omega arith,
-                      all-then P (λ v. done (length list)) (each (filledPacket (servers h)) list) ended
-                          (all-each P (filledPacket (servers h)) list (every-map _ _ (packet-fits (servers h)) list (held .fields))) tt,
-                    ),
-              ),
+              all-then P (λ count. tablesOf (hallOf (h .n) (h .k) (h .b) count)) (filledFitted h) (filledTables same codes list)
+                  (fitted-fits h (bytes .count)) (tables-fits same codes list held (omega arith) (omega arith)),
             ),
           ),
         ),
@@ -159,9 +174,7 @@ module _ (h : Hall) (codes : List ℕ) (list : List SheetPacket) (held : Held co
 
 -- what stands where in the sheet that is written
 pub record Stands (h : Hall) (codes : List ℕ) (list : List SheetPacket) (s : List ℕ) : Type 0 where
-  pub n : value s 4 1 ≡ h .n
-  pub k : value s 5 1 ≡ h .k
-  pub b : value s 6 1 ≡ h .b
+  pub hall : hallIn s ≡ h
   pub second : codeCountOf s ≡ length codes
   pub codes-part : drop (codesPlace s) s ≡ codes ++ (bytesOf 4 (length list) ++ joined packetBytes list)
   pub packets-part : drop (codesPlace s + length codes + 4) s ≡ joined packetBytes list
@@ -172,22 +185,26 @@ sheet-stands h codes list bytes held short =
     let s = sheetFor h codes list in
     let l = sheet-length h codes list (held .bytes) in
     let r6 : List ℕ = bytesOf 4 (length list) ++ joined packetBytes list in
-    let d0 : drop 0 s ≡ bytesOf 4 3 ++ (bytesOf 1 (h .n) ++ (bytesOf 1 (h .k) ++ (bytesOf 1 (h .b) ++ (bytesOf 4 (length codes) ++ (codes ++ r6))))) =
+    let r7 : List ℕ = bytesOf 4 (length codes) ++ (codes ++ r6) in
+    let d0 : drop 0 s ≡ bytesOf 4 (sectionOf h) ++ (bytesOf 1 (h .n) ++ (bytesOf 1 (h .k) ++ (bytesOf 1 (h .b) ++ (fittedBytes h ++ r7)))) =
     sheet-laid h codes list (held .bytes) in
-    let first : value s 0 4 ≡ 3 = value-laid s 0 4 3 _ (omega arith) d0 in
-    let d4 : drop 4 s ≡ bytesOf 1 (h .n) ++ (bytesOf 1 (h .k) ++ (bytesOf 1 (h .b) ++ (bytesOf 4 (length codes) ++ (codes ++ r6)))) =
-    drop-laid s 0 4 3 _ d0 in
-    let d5 : drop 5 s ≡ bytesOf 1 (h .k) ++ (bytesOf 1 (h .b) ++ (bytesOf 4 (length codes) ++ (codes ++ r6))) = drop-laid s 4 1 (h .n) _ d4 in
-    let d6 : drop 6 s ≡ bytesOf 1 (h .b) ++ (bytesOf 4 (length codes) ++ (codes ++ r6)) = drop-laid s 5 1 (h .k) _ d5 in
-    let d7 : drop (countPlace s) s ≡ bytesOf 4 (length codes) ++ (codes ++ r6) = rw (count-place s first) (drop-laid s 6 1 (h .b) _ d6) in
-    let d11 : drop (codesPlace s) s ≡ codes ++ r6 = rw (codes-behind s) (drop-laid s (countPlace s) 4 (length codes) _ d7) in
+    let first : value s 0 4 ≡ sectionOf h = value-laid s 0 4 (sectionOf h) _ (omega arith) d0 in
+    let d4 : drop 4 s ≡ bytesOf 1 (h .n) ++ (bytesOf 1 (h .k) ++ (bytesOf 1 (h .b) ++ (fittedBytes h ++ r7))) = drop-laid s 0 4 (sectionOf h) _ d0 in
+    let d5 : drop 5 s ≡ bytesOf 1 (h .k) ++ (bytesOf 1 (h .b) ++ (fittedBytes h ++ r7)) = drop-laid s 4 1 (h .n) _ d4 in
+    let d6 : drop 6 s ≡ bytesOf 1 (h .b) ++ (fittedBytes h ++ r7) = drop-laid s 5 1 (h .k) _ d5 in
+    let d7 : drop 7 s ≡ fittedBytes h ++ r7 = drop-laid s 6 1 (h .b) _ d6 in
+    let n = value-laid s 4 1 (h .n) _ (omega arith) d4 in
+    let k = value-laid s 5 1 (h .k) _ (omega arith) d5 in
+    let b = value-laid s 6 1 (h .b) _ (omega arith) d6 in
+    let place : countPlace s ≡ 7 + length (fittedBytes h) = omega (arith, count-place s h first, fitted-long h) in
+    let d8 : drop (countPlace s) s ≡ r7 =
+    rw place (sym (drop-drop (length (fittedBytes h)) 7 s) ∙ ap (drop (length (fittedBytes h))) d7 ∙ drop-at (fittedBytes h) r7 (length (fittedBytes h)) refl) in
+    let d11 : drop (codesPlace s) s ≡ codes ++ r6 = rw (codes-behind s) (drop-laid s (countPlace s) 4 (length codes) _ d8) in
     let d12 : drop (codesPlace s + length codes) s ≡ r6 =
     sym (drop-drop (length codes) (codesPlace s) s) ∙ ap (drop (length codes)) d11 ∙ drop-at codes r6 (length codes) refl in
     record {
-      n = value-laid s 4 1 (h .n) _ (omega arith) d4;
-      k = value-laid s 5 1 (h .k) _ (omega arith) d5;
-      b = value-laid s 6 1 (h .b) _ (omega arith) d6;
-      second = value-laid s (countPlace s) 4 (length codes) _ (omega arith) d7;
+      hall = rw (n, k, b, fitted-stands h s r7 first n k (bytes .count) d7);
+      second = value-laid s (countPlace s) 4 (length codes) _ (omega arith) d8;
       codes-part = d11;
       packets-part = drop-laid s (codesPlace s + length codes) 4 (length list) (joined packetBytes list) d12;
     }
@@ -243,13 +260,26 @@ judged-codes (c ∷ codes) at =
     rw (q, le-ltb (suc first) (suc (length codes)) (omega arith)) (ap (λ (n : ℕ). Value 0 n) e))))
     (λ t. rw (t, lt-ltb 0 (suc (length codes)) (omega arith)) (ap (λ (n : ℕ). Refused 5 n) z0))
 
-pub judged-sheet : (h : Hall) (codes : List ℕ) (list : List SheetPacket) → judged (filledSheet h codes list) 0
-    ≡ pick (nFits (h .n)) (pick (kFits (h .n) (h .k)) (pick (bFits (h .k) (h .b)) (pick (eqb (length codes) (tableLength h))
-    (onward (judged (each filledCode codes) 11) (λ v next.
+pub judged-tables : (h : Hall) (codes : List ℕ) (list : List SheetPacket) (at : ℕ) → judged (filledTables h codes list) at
+    ≡ pick (eqb (length codes) (tableLength h))
+    (onward (judged (each filledCode codes) (at + 4)) (λ v next.
     onward (judged (each (filledPacket (servers h)) list) (next + 4)) (λ v end. Value (length list) end)))
-    (Refused bad-length 7)) (Refused bad-hall 6)) (Refused bad-hall 5)) (Refused bad-hall 4)
-unfolding judged filledSheet nightSheet tablesOf and-then
-judged-sheet h codes list = simp judged-then
+    (Refused bad-length at)
+unfolding judged filledTables tablesOf and-then
+judged-tables h codes list at = simp judged-then
+
+-- what is behind a field that is refused or passed
+passed-on : (sound : Bool) (v next number place : ℕ) (g : ℕ → ℕ → Field)
+    → onward (pick sound (Value v next) (Refused number place)) g ≡ pick sound (g v next) (Refused number place)
+passed-on true v next number place g = refl
+passed-on false v next number place g = refl
+
+pub judged-sheet : (h : Hall) (codes : List ℕ) (list : List SheetPacket) → judged (filledSheet h codes list) 0
+    ≡ pick (nFits (h .n)) (pick (kFits (h .n) (h .k)) (pick (bFits (h .k) (h .b)) (pick (countFits (h .n) (h .k) (h .count))
+    (judged (filledTables h codes list) (4 + sectionOf h))
+    (Refused bad-hall 7)) (Refused bad-hall 6)) (Refused bad-hall 5)) (Refused bad-hall 4)
+unfolding judged filledSheet nightSheet and-then
+judged-sheet h codes list = rw (section-sound h, judged-then, fitted-judged h, passed-on, same-hall h)
 
 -- a read of the written bytes answers what the writer says: a refusal's number and place are the reader's for the bytes that would be written
 pub refused-as-read : (h : Hall) (codes : List ℕ) (list : List SheetPacket) → HallBytes h → Held codes list
@@ -271,4 +301,4 @@ refused-as-read h codes list bytes held =
         let x = filledSheet h codes list in
         let a : Value (result x) (0 + length (laid x)) ≡ Value v end = sym (judged-all x (judged-sound x 0 v end e) 0) ∙ e in
         let z : 0 + length (laid x) ≡ end = cc a in
-        rw (le-ltb end (length (laid x)) (omega arith), w .n, w .k, w .b)
+        rw (le-ltb end (length (laid x)) (omega arith), w .hall)

@@ -12,8 +12,9 @@ use borrow.Author.Tests.{ltb-false, le-ltb, le-leb, eq-eqb, lt-ltb}
 use Rattle.hall.specs.Refusals.{most-retry}
 use Rattle.combine.proofs.Tests.{cases}
 use Rattle.hall.specs.declared.Hall.{Hall}
-use Rattle.hall.specs.Halls.{valid, servers}
+use Rattle.hall.specs.Halls.{hallOf, valid, servers}
 use Rattle.hall.proofs.Growth.{valid-known}
+use Rattle.hall.proofs.Racks.{count-most, capacity-fits}
 use Rattle.sheet.specs.declared.Field.{Field}
 use Rattle.sheet.specs.declared.Field.the-variants.{Value, Refused}
 use Rattle.words.specs.Words.{Bytes, bytesOf}
@@ -22,7 +23,9 @@ use Rattle.sheet.specs.Formats.{and-then, done}
 use Rattle.sheet.specs.Sheets.{behindCodes, longest, packet, packets, tablesOf, nightSheet}
 use Rattle.sheet.specs.Answers.{codesPlace, codeCountOf, acceptedAs, sheetOf, packetPlace, hallIn}
 use Rattle.sheet.proofs.Numbers.{numbers-sheet}
-use Rattle.sheet.proofs.Held.{accepted-holds, long, holds-accepted, hall-fields}
+use Rattle.sheet.proofs.Held.{accepted-holds, long, holds-accepted}
+use Rattle.sheet.proofs.Heads.{hall-fields}
+use Rattle.sheet.proofs.Places.{section-sound}
 use Rattle.sheetparts.specs.declared.SheetPacket.{SheetPacket}
 use Rattle.sheetparts.specs.Parts.{codesOf, packetPart, packetAt, packetRefused}
 use Rattle.sheetparts.specs.Encoding.{packetBytes}
@@ -30,9 +33,10 @@ use Rattle.sheetparts.proofs.Parts.{codes-there, codes-answered, packet-answere
 use Rattle.ports.specs.Codes.{known, tableLength}
 use Rattle.laying.proofs.Lists.{every-map, at-every}
 use Rattle.laying.specs.Filled.{result, judged, All, Sound, joined, Every, ended, each}
-use Rattle.writing.specs.Writing.{filledSheet, sheetFor, toldFor, writerSays, listed, packetFrom, packetsRead, plain, PacketHeld, Held, HallBytes, filledCode, filledPacket, PacketSound}
-use Rattle.laying.proofs.Reading.{judged-all, judged-sound, judged-numbers, result-then, all-then, all-each}
+use Rattle.writing.specs.Writing.{filledFitted, filledTables, filledSheet, sheetFor, toldFor, writerSays, listed, packetFrom, packetsRead, plain, PacketHeld, Held, HallBytes, filledCode, filledPacket, PacketSound}
+use Rattle.laying.proofs.Reading.{judged-all, judged-sound, judged-numbers, result-then, all-then, then-all, all-each}
 use Rattle.sheetparts.proofs.Encoding.{accepted-encoding}
+use Rattle.writing.proofs.Sections.{same-hall, fitted-sound, sound-fitted}
 use Rattle.writing.proofs.Relaid.{part-bytes}
 use Rattle.writing.proofs.Writing.{Stands, sheet-stands, sheet-encoding, refused-as-read}
 
@@ -52,9 +56,13 @@ writer-sound h codes list e =
     by (Value v end) d z = judged-sound (filledSheet h codes list) 0 v end d
 
 -- and a short and sound one is answered with its values
+result-tables : (h : Hall) (codes : List ℕ) (list : List SheetPacket) → result (filledTables h codes list) ≡ length list
+unfolding result filledTables tablesOf and-then
+result-tables h codes list = rw (result-then, result-then)
+
 result-sheet : (h : Hall) (codes : List ℕ) (list : List SheetPacket) → result (filledSheet h codes list) ≡ length list
-unfolding result filledSheet nightSheet tablesOf and-then
-result-sheet h codes list = rw (result-then, result-then)
+unfolding result filledSheet nightSheet and-then
+result-sheet h codes list = rw result-then (result-tables (hallOf (h .n) (h .k) (h .b) (result (filledFitted h))) codes list)
 
 pub writer-accepts : (h : Hall) (codes : List ℕ) (list : List SheetPacket) → length (sheetFor h codes list) ≤ longest → Sound (filledSheet h codes list)
     → writerSays h codes list ≡ acceptedAs h (length list)
@@ -64,8 +72,11 @@ writer-accepts h codes list short ok =
 
 -- a sound sheet's hall is valid
 pub sound-hall : (h : Hall) (codes : List ℕ) (list : List SheetPacket) → Sound (filledSheet h codes list) → valid h ≡ true
-unfolding All filledSheet nightSheet tablesOf and-then valid
-sound-hall h codes list ok = rw (ok .1 .0, ok .1 .1 .0, ok .1 .1 .1 .0)
+unfolding All filledSheet nightSheet and-then valid
+sound-hall h codes list ok =
+    let f = then-all (λ width sound v. sound v ≡ true) (λ count. tablesOf (hallOf (h .n) (h .k) (h .b) count)) (filledFitted h)
+    (filledTables (hallOf (h .n) (h .k) (h .b) (result (filledFitted h))) codes list) (ok .1 .1 .1 .1) .0 in
+    rw (ok .1 .0, ok .1 .1 .0, ok .1 .1 .1 .0) (sound-fitted h f)
 
 -- a sheet of sound values
 packet-filled : (limit : ℕ) (p : SheetPacket) → PacketSound limit p → Sound (filledPacket limit p)
@@ -76,35 +87,47 @@ code-filled : (c : ℕ) → known c ≡ true → Sound (filledCode c)
 unfolding All
 code-filled c h = (h, tt)
 
+tables-sound : (h : Hall) (codes : List ℕ) (list : List SheetPacket) → length codes ≡ tableLength h
+    → Every (λ (c : ℕ). known c ≡ true) codes → Every (PacketSound (servers h)) list → Sound (filledTables h codes list)
+unfolding All filledTables tablesOf and-then
+tables-sound h codes list second known-all packets-all =
+    let P : ℕ → (ℕ → Bool) → ℕ → Type 0 = λ width sound v. sound v ≡ true in (
+      eq-eqb (length codes) (tableLength h) second,
+      all-then P (behindCodes (servers h)) (each filledCode codes) _
+          (all-each P filledCode codes (every-map _ _ code-filled codes known-all)) (
+            refl,
+            all-then P (λ v. done (length list)) (each (filledPacket (servers h)) list) ended
+                (all-each P (filledPacket (servers h)) list (every-map _ _ (packet-filled (servers h)) list packets-all)) tt,
+          ),
+    )
+
 pub sheet-sound : (h : Hall) (codes : List ℕ) (list : List SheetPacket) → valid h ≡ true → length codes ≡ tableLength h
     → Every (λ (c : ℕ). known c ≡ true) codes → Every (PacketSound (servers h)) list → Sound (filledSheet h codes list)
-unfolding All filledSheet nightSheet tablesOf and-then
+unfolding All filledSheet nightSheet and-then
 sheet-sound h codes list v second known-all packets-all =
     let f = hall-fields h v in
-    let P : ℕ → (ℕ → Bool) → ℕ → Type 0 = λ width sound v. sound v ≡ true in (
-      refl,
+    let same : Hall = hallOf (h .n) (h .k) (h .b) (result (filledFitted h)) in
+    let tables : Sound (filledTables same codes list) = rw (same-hall h) (tables-sound h codes list second known-all packets-all) in (
+      section-sound h,
       (
         f .0,
         (
           f .1,
           (
             f .2,
-            (
-              eq-eqb (length codes) (tableLength h) second,
-              all-then P (behindCodes (servers h)) (each filledCode codes) _
-                  (all-each P filledCode codes (every-map _ _ code-filled codes known-all)) (
-                    refl,
-                    all-then P (λ v. done (length list)) (each (filledPacket (servers h)) list) ended
-                        (all-each P (filledPacket (servers h)) list (every-map _ _ (packet-filled (servers h)) list packets-all)) tt,
-                  ),
-            ),
+            all-then (λ width sound v. sound v ≡ true) (λ count. tablesOf (hallOf (h .n) (h .k) (h .b) count)) (filledFitted h)
+                (filledTables same codes list) (fitted-sound h (f .3)) tables,
           ),
         ),
       ),
     )
 
 pub hall-bytes : (h : Hall) → valid h ≡ true → HallBytes h
-hall-bytes h e = let v = valid-known h e in record { n = omega arith; k = omega arith; b = omega arith }
+hall-bytes h e =
+    let v = valid-known h e in
+    let m = count-most (h .n) (h .k) (h .count) (v .count-fits) in
+    let l = capacity-fits (h .n) (h .k) (omega arith) (v .sized) in
+    record { n = omega arith; k = omega arith; b = omega arith; count = omega arith }
 
 -- packet i by its bytes
 packet-stands : (list : List SheetPacket) (i : ℕ) → i < length list
@@ -191,8 +214,8 @@ module _ (s : List ℕ) (b : Bytes s) where
 
   -- an accepted sheet that is written again is the same bytes
   module _ (ok : sheetOf s .refusal ≡ 0) where
-    same-hall : sheetOf s .hall ≡ hallIn s
-    same-hall = ap (λ x. x .hall) (holds-accepted s (accepted-holds s ok))
+    read-hall : sheetOf s .hall ≡ hallIn s
+    read-hall = ap (λ x. x .hall) (holds-accepted s (accepted-holds s ok))
 
     same-codes : codesOf s ≡ take (codeCountOf s) (drop (codesPlace s) s)
     same-codes = let a = accepted-holds s ok in sym (codes-there s (omega (arith, long s a)) ∙ codes-answered s (sheetOf s) refl ok)
@@ -207,7 +230,7 @@ module _ (s : List ℕ) (b : Bytes s) where
     pub rewritten-said : writerSays (sheetOf s .hall) (codesOf s) (packetsRead s) ≡ sheetOf s
     rewritten-said =
         sym (refused-as-read (sheetOf s .hall) (codesOf s) (packetsRead s)
-        (rw same-hall (record { n = value-fits s b 4 1; k = value-fits s b 5 1; b = value-fits s b 6 1 }))
+        (rw read-hall (hall-bytes (hallIn s) (accepted-holds s ok .hall)))
         (record {
           bytes = codes-bytes;
           fields = every-listed PacketHeld (packetAt s) 0 (sheetOf s .packets) (λ i h.

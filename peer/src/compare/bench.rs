@@ -1,4 +1,5 @@
-//! The benchmark: Rattle's time over the peer's for each call, both on the same inputs in the same run.
+//! The benchmark: Rattle's time over the peer's for each call, both on the same inputs in the same run; and Rattle's time in halls of which
+//! half is fitted over its time in full ones.
 
 use std::hint::black_box;
 use std::time::{Duration, Instant};
@@ -7,8 +8,10 @@ use peer::random::Random;
 use peer::refusal;
 
 use super::call::Call;
-use super::calls::CALLS;
-use super::cases::Case;
+use super::calls::{Journey, Step, CALLS};
+use super::cases::{halves_by_b_and_share, Case};
+use super::counts::full;
+use super::packets::{sound_far, sound_near, Far, Near};
 use super::ratios::{Form, Measure};
 
 /// The rounds of a case, a ratio each; an odd number, so that one of them is the median.
@@ -22,9 +25,27 @@ const BURST: Duration = Duration::from_micros(100);
 /// The time above which a burst takes long.
 const LONG_BURST: Duration = Duration::from_millis(2);
 
-/// Measures every call and prints its ratios.
-pub fn run(seed: u64, form: Form) {
+/// What is measured.
+#[derive(Debug, Clone, Copy, PartialEq, Eq)]
+pub enum Extent {
+    /// Every call against the peer, and halves of halls against full ones.
+    All,
+    /// Halves of halls against full ones alone.
+    Halves,
+}
+
+/// Measures every call, or halves alone, and prints the ratios.
+pub fn run(seed: u64, form: Form, extent: Extent) {
     println!("seed {seed}");
+    if extent == Extent::All {
+        measure_calls(seed, form);
+        println!();
+    }
+    measure_halves(seed, form);
+}
+
+/// Measures every call against the peer and prints its ratios.
+fn measure_calls(seed: u64, form: Form) {
     println!("Rattle's time over the peer's, {ROUNDS} rounds: below 1 Rattle is the faster");
     let mut above = String::new();
     for call in CALLS {
@@ -41,6 +62,66 @@ pub fn run(seed: u64, form: Form) {
             println!("{line}");
         }
     }
+}
+
+/// Measures Rattle's steps and journeys between fitted servers of halls of which half is fitted against the same ones in full halls, and
+/// prints the ratios.
+fn measure_halves(seed: u64, form: Form) {
+    println!("Rattle's time in a hall of which half is fitted over its time in a full one, same servers, packets and codes, {ROUNDS} rounds");
+    let steps = halves::<Step>(seed, halves_by_b_and_share(sound_near), |at| Near {
+        hall: full(at.hall),
+        ..at.clone()
+    });
+    let journeys = halves::<Journey>(seed, halves_by_b_and_share(sound_far), |at| Far {
+        hall: full(at.hall),
+        ..at.clone()
+    });
+    println!("\n{}", form.head(&steps));
+    for (name, measures) in [(Step::NAME, steps), (Journey::NAME, journeys)] {
+        for line in form.lines(name, &measures) {
+            println!("{line}");
+        }
+    }
+}
+
+/// Measures the cases of a call against what fills the halls of their inputs.
+fn halves<C: Call>(
+    seed: u64,
+    cases: Vec<Case<C::Input>>,
+    filled: impl Fn(&C::Input) -> C::Input,
+) -> Vec<Measure> {
+    let mut random = Random::new(seed);
+    let mut rooms = C::ample_rooms();
+    let mut measure = |case: Case<C::Input>| {
+        let part: Vec<C::Input> = (0..C::MEASURED).map(|_| (case.draw)(&mut random)).collect();
+        let whole: Vec<C::Input> = part.iter().map(&filled).collect();
+        let pace = pace::<C>(&part, &mut rooms);
+        let mut ratios: Vec<f64> = (0..ROUNDS)
+            .map(|_| half_ratio::<C>(&part, &whole, &mut rooms, pace))
+            .collect();
+        ratios.sort_by(f64::total_cmp);
+        Measure {
+            size: case.size,
+            kind: case.kind,
+            ratios,
+        }
+    };
+    cases.into_iter().map(&mut measure).collect()
+}
+
+/// The ratio of one round: the least time of Rattle's side for the one inputs over that for the others.
+fn half_ratio<C: Call>(
+    part: &[C::Input],
+    whole: &[C::Input],
+    rooms: &mut C::Rooms,
+    pace: Pace,
+) -> f64 {
+    let (mut halves, mut all) = (Duration::MAX, Duration::MAX);
+    for _ in 0..pace.bursts {
+        halves = halves.min(rattle_time::<C>(part, rooms, pace.passes));
+        all = all.min(rattle_time::<C>(whole, rooms, pace.passes));
+    }
+    halves.as_secs_f64() / all.as_secs_f64()
 }
 
 /// Measures the cases of one call.

@@ -1,7 +1,9 @@
 //! What a call is measured with: halls of each n, k and b and tables of each share of codes down, as far as they play a part in it.
 
-use peer::hall::Hall;
+use peer::hall::{Hall, LEAST_FILLED_K};
 use peer::random::Random;
+
+use super::counts::half;
 
 /// The n of the halls.
 const NS: [u32; 2] = [4, 8];
@@ -58,7 +60,22 @@ pub fn by_b_and_share<I>(
     cases.into_iter().flatten().collect()
 }
 
+/// The same cases in halls of which half is fitted, where a hall need not be full.
+pub fn halves_by_b_and_share<I>(
+    draw: impl Fn(&mut Random, Hall, u32) -> I + Copy + 'static,
+) -> Vec<Case<I>> {
+    let cases =
+        by_b_and_share(move |random: &mut Random, hall, not_up| draw(random, half(hall), not_up));
+    let tall = cases.into_iter().filter(Case::is_tall);
+    tall.map(|case| case.also("half")).collect()
+}
+
 impl<I> Case<I> {
+    /// Whether the halls of the case need not be full.
+    pub fn is_tall(&self) -> bool {
+        self.size.is_some_and(|[_, k]| k >= LEAST_FILLED_K)
+    }
+
     /// A case of a call that is given no hall.
     pub fn named(kind: &str, draw: impl Fn(&mut Random) -> I + 'static) -> Case<I> {
         Case {
@@ -109,7 +126,7 @@ fn halls<I>(
     let of_size = |[n, k]: Size| Case {
         size: Some([n, k]),
         kind: kind.clone(),
-        draw: Box::new(move |random: &mut Random| draw(random, Hall { n, k, b })),
+        draw: Box::new(move |random: &mut Random| draw(random, Hall::full(n, k, b))),
     };
     sizes().map(of_size).collect()
 }
@@ -133,10 +150,25 @@ mod tests {
     fn each_size_b_and_share_is_a_case_that_draws_what_it_says() {
         let cases = told(by_b_and_share(|_, hall, not_up| (hall, not_up)));
         assert_eq!(cases.len(), 24);
-        let last = Hall { n: 8, k: 3, b: 1 };
+        let last = Hall::full(8, 3, 1);
         assert_eq!(cases[23], ("n=8 k=3 b=1 5% down".to_owned(), (last, 5)));
-        let first = Hall { n: 4, k: 1, b: 0 };
+        let first = Hall::full(4, 1, 0);
         assert_eq!(cases[0], ("n=4 k=1 b=0 all up".to_owned(), (first, 0)));
+    }
+
+    #[test]
+    fn halves_are_of_the_halls_that_need_not_be_full() {
+        let cases = told(halves_by_b_and_share(|_, hall, not_up| (hall, not_up)));
+        assert_eq!(cases.len(), 16);
+        let part = Hall {
+            count: 191_880,
+            ..Hall::full(8, 3, 1)
+        };
+        assert_eq!(
+            cases[15],
+            ("n=8 k=3 half b=1 5% down".to_owned(), (part, 5))
+        );
+        assert_eq!(cases[0].1 .0.k, 2);
     }
 
     #[test]

@@ -90,7 +90,7 @@ mod tests {
     fn a_broadcast_takes_one_round_for_each_link_of_a_chain() {
         let mut random = Random::new(1);
         for (n, k) in [(2, 2), (2, 3), (3, 2), (4, 2), (5, 2)] {
-            let hall = Hall { n, k, b: 0 };
+            let hall = Hall::full(n, k, 0);
             let start = random.below(servers(hall).unwrap());
             let chain = Chain::from(&mut random, hall, 2, start);
             let mut rounds = vec![0; 5256];
@@ -103,7 +103,7 @@ mod tests {
     #[test]
     fn chains_of_the_larger_halls_take_hundreds_of_rounds() {
         let mut random = Random::new(2);
-        let hall = Hall { n: 8, k: 2, b: 0 };
+        let hall = Hall::full(8, 2, 0);
         let lengths = (0..50).map(|i| Chain::from(&mut random, hall, 2, i).walk.len());
         let lengths: Vec<usize> = lengths.collect();
         assert!(lengths.iter().any(|&length| length > 500), "{lengths:?}");

@@ -7,15 +7,28 @@ use peer::forward::{
     step, Packet, Step, DELIVERED, DROP_NO_PROXY, DROP_NO_ROUTE, DROP_RETRY, DROP_TTL, FORWARDED,
     JOURNEY_ROOM,
 };
-use peer::hall::Hall;
+use peer::hall::{cell, racks_of, servers_of, size_of, Hall, LEAST_FILLED_K};
+use peer::plan::{fitted_servers, is_fitted};
 use peer::ports::UP;
-use peer::refusal::{ADDRESS, CHECKSUM, DHL, FLAGS, LENGTH, NONE, PF, SHORT_FRAME, VERSION};
+use peer::refusal::{
+    ADDRESS, CHECKSUM, DHL, FLAGS, HALL, LENGTH, NONE, PF, SHEET, SHORT_FRAME, VERSION,
+};
 use peer::route::first_link;
+use peer::sheet;
 
+use super::counts::{full, is_full, without_far_servers};
 use super::faults::{Fault, Faults, FRAME_FAULTS, PAIRS};
 use super::packets::{Far, Near};
 use super::tables::{cell_codes, lent_to_step};
 
+/// The first count of a sheet whose hall is not full.
+const PART_SECTION: u32 = 7;
+/// The highest first count that is an event.
+const MOST_FIRST_COUNT: u32 = 8;
+/// The offset of the count of DCell(1)s in such a sheet, the offset behind it, and the least length of a sheet that ends within it.
+const PART_COUNT_AT: usize = 7;
+const PART_COUNT_END: usize = 11;
+const PART_COUNT_CUT: usize = PART_COUNT_AT + 1;
 /// The most links of a journey.
 pub const MOST_LINKS: usize = JOURNEY_ROOM - 1;
 
@@ -34,6 +47,21 @@ pub enum Event {
     Arrived { k: u32, level: u32 },
     /// A step would do something else if every far port were up.
     FarPort,
+    /// In a hall that is not full, a server that is not fitted does something else than if it were: a port is shut for its own server
+    /// alone.
+    OwnServer,
+    /// In a hall that is not full, a fitted server does something else than in a full one: a port is shut for its far server alone.
+    FarServer,
+    /// A journey of a link or more is delivered in a hall that is not full.
+    PartDelivered,
+    /// Such a journey is delivered after a reroute.
+    PartRerouted,
+    /// In a hall that is not full, a server is fitted or is not.
+    Fitted(bool),
+    /// Of the DCell(2) around a server of a hall that is not full nothing is fitted (0), a part (1) or all (2).
+    Share(u32),
+    /// What became of the first section of a sheet.
+    Section(Section),
     /// A step was refused a table of its cell that has no far codes.
     CellAlone,
     /// The journey crossed the most links and ended so.
@@ -48,7 +76,48 @@ pub enum Event {
     Faults([Fault; 2]),
 }
 
-/// What steps and journeys have to meet: first what steps alone do, then what both share, last the longest journeys.
+/// What became of the first section of a sheet.
+#[derive(Debug, Clone, Copy, PartialEq, Eq, PartialOrd, Ord)]
+pub enum Section {
+    /// One of 7 bytes stands in a sheet that was accepted.
+    Accepted,
+    /// The count of DCell(1)s was that of a full hall.
+    FullCount,
+    /// It was higher.
+    TooHigh,
+    /// It was the highest number there is.
+    Highest,
+    /// It stood there with k below 2.
+    LowTop,
+    /// The sheet ended within it.
+    Cut,
+    /// The first count was this small number, neither 3 nor 7.
+    FirstCount(u32),
+}
+
+/// What every comparison of the reading of a sheet has to meet of its first section.
+pub const SECTIONS: &[Event] = &[
+    Event::Section(Section::Accepted),
+    Event::Section(Section::FullCount),
+    Event::Section(Section::TooHigh),
+    Event::Section(Section::Highest),
+    Event::Section(Section::LowTop),
+    Event::Section(Section::Cut),
+    Event::Section(Section::FirstCount(0)),
+    Event::Section(Section::FirstCount(1)),
+    Event::Section(Section::FirstCount(2)),
+    Event::Section(Section::FirstCount(4)),
+    Event::Section(Section::FirstCount(5)),
+    Event::Section(Section::FirstCount(6)),
+    Event::Section(Section::FirstCount(8)),
+];
+/// What every comparison of a call that takes more than the first section of a sheet has to meet.
+pub const PART_SHEET: &[Event] = SECTIONS.split_at(1).0;
+
+/// What a comparison of whatever searches the DCell(b) of a server has to meet: both ends of its links are fitted or both are not.
+pub const OWN_SERVER: &[Event] = &[Event::OwnServer];
+
+/// What steps and journeys have to meet: first what steps alone do, then what both share, last what journeys alone do.
 const ALL: &[Event] = &[
     Event::Ending(FORWARDED),
     Event::CellAlone,
@@ -69,12 +138,16 @@ const ALL: &[Event] = &[
     Event::Arrived { k: 3, level: 2 },
     Event::Arrived { k: 3, level: 3 },
     Event::FarPort,
+    Event::OwnServer,
+    Event::FarServer,
+    Event::PartDelivered,
+    Event::PartRerouted,
     Event::Longest(DROP_TTL),
     Event::Longest(DELIVERED),
 ];
 
 /// What every comparison of steps has to meet.
-pub const STEP: &[Event] = ALL.split_at(ALL.len() - 2).0;
+pub const STEP: &[Event] = ALL.split_at(ALL.len() - 4).0;
 /// What every comparison of journeys has to meet.
 pub const JOURNEY: &[Event] = ALL.split_at(2).1;
 
@@ -113,6 +186,17 @@ impl Display for Event {
                 write!(f, "arrived k={k} link {level} m={}", m(k, level))
             }
             Event::FarPort => f.write_str("far port decides"),
+            Event::OwnServer => f.write_str("own server not fitted"),
+            Event::FarServer => f.write_str("far server not fitted"),
+            Event::PartDelivered => f.write_str("delivered in a part of a hall"),
+            Event::PartRerouted => f.write_str("rerouted and delivered there"),
+            Event::Fitted(true) => f.write_str("fitted"),
+            Event::Fitted(false) => f.write_str("not fitted"),
+            Event::Share(share) => {
+                let words = ["nothing", "a part", "all"];
+                write!(f, "{} of a DCell(2)", words[share as usize % words.len()])
+            }
+            Event::Section(section) => section.fmt(f),
             Event::CellAlone => f.write_str("table without far codes"),
             Event::Longest(ending) => {
                 write!(f, "{} after {MOST_LINKS} links", ending_words(ending))
@@ -128,6 +212,47 @@ impl Display for Event {
             Event::Spare { number, bytes } => write!(f, "spare bytes {bytes}, {number}"),
             Event::Told { number, place } => write!(f, "{number} at {place}"),
             Event::Faults([first, second]) => write!(f, "{first} + {second}"),
+        }
+    }
+}
+
+impl Display for Section {
+    /// What became of the section, in words.
+    fn fmt(&self, f: &mut Formatter<'_>) -> fmt::Result {
+        match *self {
+            Section::Accepted => f.write_str("7-byte section accepted"),
+            Section::FullCount => f.write_str("full count, 1 at 7"),
+            Section::TooHigh => f.write_str("count too high, 1 at 7"),
+            Section::Highest => write!(f, "count {}, 1 at 7", u32::MAX),
+            Section::LowTop => f.write_str("k below 2, 1 at 7"),
+            Section::Cut => f.write_str("cut within the count"),
+            Section::FirstCount(count) => write!(f, "first count {count}"),
+        }
+    }
+}
+
+impl Section {
+    /// What becomes of the first section of a sheet; none where it is a sound one of 3 bytes, or is refused for n, k or b.
+    fn of(sheet: &[u8]) -> Option<Section> {
+        let read = sheet::read(sheet);
+        let [first, count] = [0, PART_COUNT_AT].map(|at| sheet::word_at(sheet, at));
+        match (first, read.refusal, read.place as usize) {
+            (PART_SECTION, NONE, _) => Some(Section::Accepted),
+            (PART_SECTION, HALL, PART_COUNT_AT) => Some(Section::refused(sheet, count)),
+            (PART_SECTION, SHEET, PART_COUNT_CUT..PART_COUNT_END) => Some(Section::Cut),
+            (0..=MOST_FIRST_COUNT, LENGTH, 0) => Some(Section::FirstCount(first)),
+            _ => None,
+        }
+    }
+
+    /// Why the count of DCell(1)s of a sheet is refused.
+    fn refused(sheet: &[u8], count: u32) -> Section {
+        let [n, k] = [4, 5].map(|place| u32::from(sheet[place]));
+        match count {
+            _ if k < LEAST_FILLED_K => Section::LowTop,
+            u32::MAX => Section::Highest,
+            count if count == racks_of(n, k) => Section::FullCount,
+            _ => Section::TooHigh,
         }
     }
 }
@@ -161,6 +286,63 @@ impl Met {
         }
     }
 
+    /// Counts what became of the first section of a sheet.
+    pub fn add_section(&mut self, sheet: &[u8]) {
+        if let Some(section) = Section::of(sheet) {
+            self.add(Event::Section(section));
+        }
+    }
+
+    /// Counts that a sheet with a section of 7 bytes was accepted.
+    pub fn add_part_sheet(&mut self, sheet: &[u8]) {
+        if Section::of(sheet) == Some(Section::Accepted) {
+            self.add(Event::Section(Section::Accepted));
+        }
+    }
+
+    /// Counts whether a server of a sound hall that is not full is fitted.
+    pub fn add_whether_fitted(&mut self, h: Hall, uid: u32) {
+        if !is_full(h) && uid < servers_of(h) {
+            self.add(Event::Fitted(is_fitted(h, uid)));
+        }
+    }
+
+    /// Counts how much is fitted of the DCell(2) around a server of a sound hall that is not full.
+    pub fn add_share(&mut self, h: Hall, uid: u32) {
+        if is_full(h) || uid >= servers_of(h) {
+            return;
+        }
+        let fitted = fitted_servers(h, uid);
+        let share = match fitted {
+            0 => 0,
+            _ if fitted < size_of(h, LEAST_FILLED_K) => 1,
+            _ => 2,
+        };
+        self.add(Event::Share(share));
+    }
+
+    /// Counts whose server shuts a port that decides what a server of a sound hall does, if one does. It is lent codes that begin at a
+    /// server, and whether other codes in the full hall have it do something else is asked.
+    pub fn add_fitted(
+        &mut self,
+        h: Hall,
+        uid: u32,
+        first: u32,
+        codes: &[u8],
+        differs: impl Fn(Hall, &[u8]) -> bool,
+    ) {
+        if is_full(h) {
+            return;
+        }
+        if is_fitted(h, uid) {
+            if differs(full(h), codes) {
+                self.add(Event::FarServer);
+            }
+        } else if differs(full(h), &without_far_servers(h, first, codes)) {
+            self.add(Event::OwnServer);
+        }
+    }
+
     /// Takes a sound step of a packet that came to a server, and counts what it did.
     fn add_step(&mut self, h: Hall, uid: u32, came: Packet, lent: &[u8]) -> Step {
         let answer = step(h, uid, came, lent);
@@ -179,6 +361,10 @@ impl Met {
         if answer != step(h, uid, came, &with_far_ports_up(h, lent)) {
             self.add(Event::FarPort);
         }
+        let (near, far) = lent.split_at(cell_codes(h));
+        self.add_fitted(h, uid, cell(h, uid, h.b).first, near, |hall, near| {
+            answer != step(hall, uid, came, &[near, far].concat())
+        });
         answer
     }
 
@@ -196,14 +382,22 @@ impl Met {
     /// Counts what the steps of a sound journey did, how it ended, and whether it crossed the most links.
     pub fn add_journey(&mut self, at: &Far) {
         let (mut uid, mut packet) = (at.uid, at.packet);
+        let mut reroutes = 0;
         for links in 0.. {
-            let lent = lent_to_step(at.hall, &at.table, uid);
+            let lent = lent_to_step(full(at.hall), &at.table, uid);
             let answer = self.add_step(at.hall, uid, packet, &lent);
+            reroutes += answer.reroutes;
             if answer.ending == FORWARDED {
                 (uid, packet) = (answer.next, answer.packet);
                 continue;
             }
             self.add(Event::Ending(answer.ending));
+            if links > 0 && answer.ending == DELIVERED && !is_full(at.hall) {
+                self.add(Event::PartDelivered);
+                if reroutes > 0 {
+                    self.add(Event::PartRerouted);
+                }
+            }
             if links == MOST_LINKS {
                 self.add(Event::Longest(answer.ending));
             }
@@ -265,11 +459,12 @@ fn set_by(answer: &Step) -> bool {
 #[cfg(test)]
 mod tests {
     use super::*;
-    use crate::compare::packets::any_near;
+    use crate::compare::packets::{any_far, any_near};
     use crate::compare::tables::Table;
+    use peer::forward::journey;
     use peer::random::Random;
 
-    const HALL: Hall = Hall { n: 4, k: 1, b: 0 };
+    const RING: Hall = Hall::full(4, 1, 0);
 
     /// A packet over a proxy to server 19.
     fn over(proxy: u32, retry: u8) -> Packet {
@@ -289,7 +484,7 @@ mod tests {
             codes[place] = 2;
         }
         let mut met = Met::default();
-        met.add_step(HALL, 0, packet, &codes);
+        met.add_step(RING, 0, packet, &codes);
         met.texts().collect()
     }
 
@@ -328,7 +523,7 @@ mod tests {
         let mut codes = vec![1; 40];
         (codes[7], codes[33]) = (2, 2);
         let at = Far {
-            hall: HALL,
+            hall: RING,
             uid: 0,
             packet: Packet {
                 has_proxy: false,
@@ -388,5 +583,71 @@ mod tests {
             STEP.iter().filter(rare).collect::<Vec<_>>(),
             [] as [&Event; 0]
         );
+    }
+
+    #[test]
+    fn every_event_of_a_journey_but_the_longest_is_drawn_more_than_now_and_then() {
+        let mut random = Random::new(2);
+        let mut met = Met::default();
+        for _ in 0..40_000 {
+            let at = any_far(&mut random);
+            if journey(at.hall, at.uid, at.packet, &at.table).refusal == NONE {
+                met.add_journey(&at);
+            }
+        }
+        let (drawn, _) = JOURNEY.split_at(JOURNEY.len() - 2);
+        let rare = |event: &&Event| met.0.get(event).is_none_or(|&count| count < 10);
+        assert_eq!(
+            drawn.iter().filter(rare).collect::<Vec<_>>(),
+            [] as [&Event; 0]
+        );
+    }
+
+    #[test]
+    fn a_port_that_is_shut_for_its_own_server_or_for_its_far_one_is_told() {
+        let h = Hall {
+            count: 3,
+            ..Hall::full(2, 2, 1)
+        };
+        let told = |uid, dst| {
+            let mut met = Met::default();
+            let packet = Packet {
+                dst,
+                has_proxy: false,
+                ..over(0, 5)
+            };
+            met.add_step(h, uid, packet, &[1; 24]);
+            met.texts().collect::<Vec<String>>()
+        };
+        assert_eq!(told(0, 17), ["0 reroutes: 1"]);
+        let rerouted = ["1 reroute: 1", "proxy set: 1", "far server not fitted: 1"];
+        assert_eq!(told(2, 18), rerouted);
+        assert_eq!(told(18, 19), ["0 reroutes: 1", "own server not fitted: 1"]);
+        assert_eq!(told(18, 18), ["0 reroutes: 1"]);
+    }
+
+    #[test]
+    fn what_became_of_a_first_section_is_told() {
+        let mut bytes = vec![0, 0, 0, 7, 2, 2, 1, 0, 0, 0, 3, 0, 0, 0, 126];
+        bytes.extend([1; 126]);
+        bytes.extend([0; 4]);
+        let told = |place: usize, byte, length: usize| {
+            let mut sheet = bytes[..length].to_vec();
+            sheet[place] = byte;
+            Section::of(&sheet).map(|section| section.to_string())
+        };
+        let words = |text: &str| Some(text.to_owned());
+        assert_eq!(told(0, 0, 145), words("7-byte section accepted"));
+        assert_eq!(told(10, 7, 145), words("full count, 1 at 7"));
+        assert_eq!(told(10, 8, 145), words("count too high, 1 at 7"));
+        assert_eq!(told(5, 1, 145), words("k below 2, 1 at 7"));
+        for length in 8..11 {
+            assert_eq!(told(0, 0, length), words("cut within the count"));
+        }
+        assert_eq!(told(3, 5, 145), words("first count 5"));
+        for (place, byte, length) in [(3, 9, 145), (3, 3, 145), (0, 0, 7), (0, 0, 11), (4, 9, 145)]
+        {
+            assert_eq!(told(place, byte, length), None);
+        }
     }
 }

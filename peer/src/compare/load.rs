@@ -78,7 +78,7 @@ fn counted_halls() -> impl Iterator<Item = Hall> {
 /// The halls of every n and of every top level from the least one on.
 fn halls(least_k: u32) -> impl Iterator<Item = Hall> {
     let ks = least_k..=MOST_K;
-    ks.flat_map(|k| (LEAST_N..=MOST_N).map(move |n| Hall { n, k, b: 0 }))
+    ks.flat_map(|k| (LEAST_N..=MOST_N).map(move |n| Hall::full(n, k, 0)))
 }
 
 impl Proved {
@@ -310,7 +310,7 @@ mod tests {
     const WORKED: &str = include_str!("../../../crates/load/specs/Worked.antt");
 
     /// Six servers in a ring, 0 2 3 5 4 1: every second link is a switch, and the others are of level 1.
-    const RING: Hall = Hall { n: 2, k: 1, b: 0 };
+    const RING: Hall = Hall::full(2, 1, 0);
 
     /// The ring with all its routes counted.
     fn ring() -> Load {
@@ -441,7 +441,7 @@ mod tests {
     #[test]
     fn the_load_of_all_levels_gives_the_printed_mean_of_route_lengths() {
         for (n, k, [mean, _]) in ROWS {
-            let proved = Proved::of(Hall { n, k, b: 0 });
+            let proved = Proved::of(Hall::full(n, k, 0));
             let carried: u64 = proved.links().iter().sum();
             let links = carried as f64 / (proved.servers() - 1) as f64;
             assert!((links - mean).abs() <= TOLERANCE, "{n} {k}: {links}");

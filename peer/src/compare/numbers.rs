@@ -28,18 +28,18 @@ pub fn edge_pairs() -> impl Iterator<Item = [u32; 2]> {
     edge_numbers().flat_map(|one| edge_numbers().map(move |other| [one, other]))
 }
 
-/// Any hall, or any three numbers for one.
+/// Any hall, or any four numbers for one.
 pub fn any_numbers_hall(random: &mut Random) -> Hall {
     if random.once_in(2) {
         return any_hall(random);
     }
-    let [n, k, b] = [(); 3].map(|()| any_number(random));
-    Hall { n, k, b }
+    let [n, k, b, count] = [(); 4].map(|()| any_number(random));
+    Hall { n, k, b, count }
 }
 
-/// The halls at an edge, and each number at an edge for each of the three numbers of a hall.
+/// The halls at an edge, and each number at an edge for each of the four numbers of a hall.
 pub fn edge_numbers_halls() -> impl Iterator<Item = Hall> {
-    let around = Hall { n: 4, k: 2, b: 1 };
+    let around = Hall::full(4, 2, 1);
     let changed = edge_numbers().flat_map(move |number| {
         let n = Hall {
             n: number,
@@ -53,7 +53,11 @@ pub fn edge_numbers_halls() -> impl Iterator<Item = Hall> {
             b: number,
             ..around
         };
-        [n, k, b]
+        let count = Hall {
+            count: number,
+            ..around
+        };
+        [n, k, b, count]
     });
     edge_halls().chain(changed)
 }

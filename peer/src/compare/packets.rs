@@ -5,7 +5,8 @@ use peer::hall::{self, Hall};
 use peer::random::Random;
 use peer::refusal::NONE;
 
-use super::inputs::{any_hall, any_uid, servers, sizes};
+use super::counts::fitted_server;
+use super::inputs::{any_hall, any_uid, sizes};
 use super::tables::{any_hall_table, any_step_table, codes, sound_hall_table, step_codes, Table};
 use super::trails::any_longest;
 
@@ -19,7 +20,7 @@ const ARRIVED: u32 = 6;
 const LONGEST: u32 = 2_000;
 
 /// A packet at a server, with the table lent to its step.
-#[derive(Debug)]
+#[derive(Debug, Clone)]
 pub struct Near {
     pub hall: Hall,
     pub uid: u32,
@@ -30,7 +31,7 @@ pub struct Near {
 }
 
 /// A packet at its source, with the hall table.
-#[derive(Debug)]
+#[derive(Debug, Clone)]
 pub struct Far {
     pub hall: Hall,
     pub uid: u32,
@@ -74,9 +75,9 @@ fn any_journey(random: &mut Random) -> Far {
     }
 }
 
-/// A packet without a proxy at a server of a sound hall, with so many in a hundred of the codes lent to it not up.
+/// A packet without a proxy at a fitted server of a sound hall, with so many in a hundred of the codes lent to it not up.
 pub fn sound_near(random: &mut Random, hall: Hall, not_up: u32) -> Near {
-    let uid = random.below(servers(hall).unwrap_or(1));
+    let uid = fitted_server(random, hall).unwrap_or(0);
     Near {
         hall,
         uid,
@@ -86,7 +87,7 @@ pub fn sound_near(random: &mut Random, hall: Hall, not_up: u32) -> Near {
     }
 }
 
-/// A packet without a proxy on a journey in a sound hall, with so many in a hundred codes not up.
+/// A packet without a proxy on a journey from a fitted server of a sound hall, with so many in a hundred codes not up.
 pub fn sound_far(random: &mut Random, hall: Hall, not_up: u32) -> Far {
     let (table, uid) = sound_hall_table(random, hall, not_up);
     Far {
@@ -178,10 +179,10 @@ fn any_ttl(random: &mut Random) -> u8 {
     }
 }
 
-/// A packet to any server of a sound hall, with retry and TTL enough.
+/// A packet to any fitted server of a sound hall, with retry and TTL enough.
 fn sound_packet(random: &mut Random, hall: Hall) -> Packet {
     Packet {
-        dst: random.below(servers(hall).unwrap_or(1)),
+        dst: fitted_server(random, hall).unwrap_or(0),
         has_proxy: false,
         proxy: 0,
         retry: 5,

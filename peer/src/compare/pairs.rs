@@ -3,6 +3,7 @@
 use peer::hall::{Hall, LEAST_N, MOST_K, MOST_N};
 use peer::random::Random;
 
+use super::counts::with_sound_count;
 use super::inputs::{any_hall, any_uid, edge_halls, servers, sizes};
 use super::room::{Element, Room};
 
@@ -33,7 +34,8 @@ impl Pair {
         let hall = if random.once_in(ANY_HALL) {
             any_hall(random)
         } else {
-            large_hall(random)
+            let hall = large_hall(random);
+            with_sound_count(random, hall)
         };
         let x = any_uid(random, hall);
         let y = if random.once_in(NEAR) {
@@ -79,7 +81,7 @@ impl Pair {
 /// The halls of more than the least servers and of no more than the most, with one b.
 fn small_halls(above: u32, most: u32) -> impl Iterator<Item = Hall> {
     let ns = LEAST_N..=MOST_N;
-    let halls = ns.flat_map(|n| (0..=MOST_K).map(move |k| Hall { n, k, b: 0 }));
+    let halls = ns.flat_map(|n| (0..=MOST_K).map(move |k| Hall::full(n, k, 0)));
     halls.filter(move |&h| servers(h).is_some_and(|count| count > above && count <= most))
 }
 
@@ -108,19 +110,15 @@ fn edge_pairs(hall: Hall) -> impl Iterator<Item = Pair> {
     })
 }
 
-/// A hall that is not small.
+/// A full hall that is not small.
 fn large_hall(random: &mut Random) -> Hall {
     let b = random.below(2);
     if random.once_in(4) {
         let n = MOST_N - random.below(2);
-        return Hall {
-            n,
-            k: MOST_K - 1,
-            b,
-        };
+        return Hall::full(n, MOST_K - 1, b);
     }
     let n = LEAST_N + 1 + random.below(MOST_N - LEAST_N);
-    Hall { n, k: MOST_K, b }
+    Hall::full(n, MOST_K, b)
 }
 
 /// A server of the same DCell below the top level as another, or any uid where there is no such cell.

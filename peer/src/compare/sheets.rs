@@ -5,22 +5,28 @@ use std::iter;
 use std::ops::{Deref, RangeInclusive};
 
 use peer::forward::MOST_RETRY;
-use peer::hall::{Hall, LEAST_N, MOST_N};
+use peer::hall::{racks_of, Hall, LEAST_FILLED_K, LEAST_N, MOST_N};
 use peer::ports::UP;
 use peer::random::Random;
-use peer::sheet::{PACKET_BYTES, SHEET_ROOM};
+use peer::sheet::{word_at, PACKET_BYTES, SHEET_ROOM};
 
+use super::counts::{edge_counts, is_full, part_server};
 use super::inputs::{beyond, servers, sound_hall, within};
 use super::packets::Far;
 use super::tables::{codes, hall_codes, unknown_code};
 
+/// The first count of a full hall's sheet, and of a sheet whose hall is not full.
+const FIRST_COUNTS: [u32; 2] = [3, 7];
 /// The offset of n, k and b.
 const HALL_AT: usize = 4;
-/// The offset of the second count.
+/// The offset of the number of DCell(1)s fitted, which a full hall's sheet has not, and its bytes.
+const RACKS_AT: usize = 7;
+const RACKS: usize = 4;
+/// The offset of the second count in the sheet of a full hall; all that follows is four bytes farther on where the hall is not full.
 const COUNT_TWO_AT: usize = 7;
-/// The offset of the codes.
+/// The offset of the codes there.
 const CODES_AT: usize = 11;
-/// The bytes of a sheet without its codes and packets.
+/// The bytes of a sheet without its codes and packets there.
 const HEAD: usize = 15;
 /// The offset of dst in a packet.
 const DST: usize = 4;
@@ -49,13 +55,23 @@ const TRIED: usize = 4;
 /// The sheets that are tried with every second count have at most so many bytes.
 const COUNTED: u32 = 50;
 /// The largest hall that a sheet has room for.
-pub const LARGEST_HALL: Hall = Hall { n: 8, k: 2, b: 0 };
+pub const LARGEST_HALL: Hall = Hall::full(8, 2, 0);
 /// The smallest hall.
-const SMALLEST: Hall = Hall { n: 2, k: 0, b: 0 };
+const SMALLEST: Hall = Hall::full(2, 0, 0);
 /// The sheet of docs/RULES.md: its hall, the places of its codes 2, and its packet.
-const SAMPLE_HALL: Hall = Hall { n: 4, k: 1, b: 0 };
+const SAMPLE_HALL: Hall = Hall::full(4, 1, 0);
 const SAMPLE_DOWN: [usize; 2] = [7, 33];
 const SAMPLE_PACKET: [u8; PACKET_BYTES] = [0, 0, 0, 0, 0, 0, 0, 19, 5, 15];
+/// The sheet that is tried of a hall that is not full: its hall and its packet.
+const PART_HALL: Hall = Hall {
+    n: 2,
+    k: 2,
+    b: 1,
+    count: 3,
+};
+const PART_PACKET: [u8; PACKET_BYTES] = [0, 0, 0, 0, 0, 0, 0, 17, 5, 15];
+/// The bytes that are tried in each place of its codes and packets.
+const TRIED_BYTES: [u8; 9] = [0, 1, 2, 4, 5, 7, 16, 42, 255];
 
 /// A sheet, sound or not.
 #[derive(Clone, PartialEq)]
@@ -75,7 +91,7 @@ pub const SMALL: Class = Class::new(101, 1_000);
 pub const MIDDLE: Class = Class::new(1_001, 10_000);
 /// Sheets up to the largest sound ones, which have 65,535 bytes.
 pub const LARGE: Class = Class::new(10_001, SHEET_ROOM - 1);
-/// Sheets of the most bytes that are read; no sound sheet has as many, as no hall's table has a count that ends in 1.
+/// Sheets of the most bytes that are read; no sound sheet has as many, as no hall's table has a count that ends in 1 or 7.
 pub const FULL: Class = Class::new(SHEET_ROOM, SHEET_ROOM);
 /// Sheets that are too long.
 pub const OVER: Class = Class::new(SHEET_ROOM + 1, SHEET_ROOM + 4_000);
@@ -87,6 +103,8 @@ enum Damage {
     Border,
     Anywhere,
     Hall,
+    Racks,
+    RacksCut,
     CountOne,
     CountTwo,
     CountThree,
@@ -100,11 +118,13 @@ enum Damage {
 }
 
 /// Every way of damaging a sheet.
-const DAMAGES: [Damage; 14] = [
+const DAMAGES: [Damage; 16] = [
     Damage::Head,
     Damage::Border,
     Damage::Anywhere,
     Damage::Hall,
+    Damage::Racks,
+    Damage::RacksCut,
     Damage::CountOne,
     Damage::CountTwo,
     Damage::CountThree,
@@ -237,32 +257,62 @@ pub fn any_sheet(random: &mut Random) -> Sheet {
     class.any(random)
 }
 
-/// The sheet of docs/RULES.md, each of its cuts, the same with each byte in each place, and a sheet of each hall, sound or not.
+/// The sheet of docs/RULES.md, each of its cuts, the same with each byte in each place, one of a hall that is not full in the same way, and
+/// a sheet of each hall, sound or not, with each count that is tried.
 pub fn edge_sheets() -> impl Iterator<Item = Sheet> {
-    let whole = sample();
-    let cuts = (0..=whole.len()).map(|length| Sheet(sample()[..length].to_vec()));
-    let places = (0..whole.len()).flat_map(|place| (0..=u8::MAX).map(move |byte| (place, byte)));
-    let changed = places.map(move |(place, byte)| {
-        let mut bytes = whole.clone();
-        bytes[place] = byte;
-        Sheet(bytes)
-    });
-    cuts.chain(changed).chain(hall_sheets())
+    let whole = cuts(sample()).chain(changed(sample(), usize::MAX));
+    let part = cuts(part_sample()).chain(changed(part_sample(), HEAD));
+    whole.chain(part).chain(hall_sheets())
 }
 
-/// Sheets of every short length with every second count up to a little past it and some that are huge; each other byte is its place.
-pub fn counted_sheets() -> impl Iterator<Item = Sheet> {
-    (0..=COUNTED).flat_map(|length| {
-        let counts = (0..=length + 1).chain([256, 65_536, 1 << 31, u32::MAX - 1, u32::MAX]);
-        counts.map(move |count| {
-            let mut bytes: Vec<u8> = (0..length as u8).collect();
-            let behind = bytes.iter_mut().skip(COUNT_TWO_AT);
-            behind
-                .zip(count.to_be_bytes())
-                .for_each(|(to, byte)| *to = byte);
-            Sheet(bytes)
-        })
+/// A sheet cut to each length.
+fn cuts(sheet: Vec<u8>) -> impl Iterator<Item = Sheet> {
+    (0..=sheet.len()).map(move |length| Sheet(sheet[..length].to_vec()))
+}
+
+/// A sheet with each byte in each place before one, and with the tried ones in each place from there on.
+fn changed(sheet: Vec<u8>, few_from: usize) -> impl Iterator<Item = Sheet> {
+    let bytes = move |place| -> Vec<u8> {
+        if place < few_from {
+            (0..=u8::MAX).collect()
+        } else {
+            TRIED_BYTES.to_vec()
+        }
+    };
+    let with_bytes = move |place| bytes(place).into_iter().map(move |byte| (place, byte));
+    let places = (0..sheet.len()).flat_map(with_bytes);
+    places.map(move |(place, byte)| {
+        let mut bytes = sheet.clone();
+        bytes[place] = byte;
+        Sheet(bytes)
     })
+}
+
+/// Sheets of every short length with every second count up to a little past it and some that are huge, at both places where it can stand;
+/// each other byte is its place, or the first count is the right one for the place of the second.
+pub fn counted_sheets() -> impl Iterator<Item = Sheet> {
+    let lengths = (0..=COUNTED).flat_map(|length| {
+        let counts = (0..=length + 1).chain([256, 65_536, 1 << 31, u32::MAX - 1, u32::MAX]);
+        counts.map(move |count| (length, count))
+    });
+    lengths.flat_map(|(length, count)| {
+        let places: Vec<u8> = (0..length as u8).collect();
+        let plain = with_word(places.clone(), COUNT_TWO_AT, count);
+        let right = FIRST_COUNTS.map(|first| {
+            let sheet = with_word(places.clone(), 0, first);
+            with_word(sheet, HALL_AT + first as usize, count)
+        });
+        [vec![plain], right.into()].concat().into_iter().map(Sheet)
+    })
+}
+
+/// A sheet with a number at a place, as far as the sheet goes.
+fn with_word(mut sheet: Vec<u8>, at: usize, word: u32) -> Vec<u8> {
+    let behind = sheet.iter_mut().skip(at);
+    behind
+        .zip(word.to_be_bytes())
+        .for_each(|(to, byte)| *to = byte);
+    sheet
 }
 
 /// A sound sheet of a hall with as many packets as there is room for, and so many in a hundred codes not up.
@@ -273,6 +323,7 @@ pub fn largest(random: &mut Random, hall: Hall, not_up: u32) -> Sheet {
 
 /// A sound sheet with one of its packets alone, which has to be there.
 pub fn alone(sheet: &[u8], codes: usize, i: u32) -> Vec<u8> {
+    let codes = codes + racks_in(sheet);
     let packet = HEAD + codes + PACKET_BYTES * i as usize;
     let mut bytes = sheet[..CODES_AT + codes].to_vec();
     bytes.extend(1u32.to_be_bytes());
@@ -282,15 +333,37 @@ pub fn alone(sheet: &[u8], codes: usize, i: u32) -> Vec<u8> {
 
 /// A sound sheet without its packets.
 pub fn without_packets(sheet: &[u8], codes: usize) -> Vec<u8> {
-    let mut bytes = sheet[..CODES_AT + codes].to_vec();
+    let mut bytes = sheet[..CODES_AT + racks_in(sheet) + codes].to_vec();
     bytes.extend(0u32.to_be_bytes());
     bytes
+}
+
+/// The bytes of the number of DCell(1)s in a sound sheet.
+fn racks_in(sheet: &[u8]) -> usize {
+    let [_, part] = FIRST_COUNTS;
+    if word_at(sheet, 0) == part {
+        RACKS
+    } else {
+        0
+    }
+}
+
+/// The bytes of the number of DCell(1)s in the sheet of a hall.
+fn racks_of_sheet(hall: Hall) -> usize {
+    if is_full(hall) {
+        0
+    } else {
+        RACKS
+    }
 }
 
 /// A sheet while it is drawn, with what is known of it.
 struct Draft {
     bytes: Vec<u8>,
+    hall: Hall,
     servers: u32,
+    /// The bytes of the number of DCell(1)s.
+    racks: usize,
     codes: usize,
     packets: u32,
 }
@@ -318,39 +391,57 @@ impl Draft {
         bytes.extend(codes.map(|code| code % KNOWN));
         bytes.extend(packets.to_be_bytes());
         for _ in 0..packets {
-            bytes.extend(any_packet(random, servers));
+            bytes.extend(any_packet(random, hall, servers));
         }
         Draft {
             bytes,
+            hall,
             servers,
+            racks: racks_of_sheet(hall),
             codes: count,
             packets,
         }
     }
 
+    /// The offset of the second count.
+    fn count_two_at(&self) -> usize {
+        COUNT_TWO_AT + self.racks
+    }
+
+    /// The offset of the codes.
+    fn codes_at(&self) -> usize {
+        CODES_AT + self.racks
+    }
+
     /// The offset of the third count.
     fn count_three_at(&self) -> usize {
-        CODES_AT + self.codes
+        self.codes_at() + self.codes
     }
 
     /// The offset of one of the packets, often the first or the last; behind the sheet where it has none.
     fn packet_at(&self, random: &mut Random) -> usize {
-        HEAD + self.codes + PACKET_BYTES * within(random, self.packets) as usize
+        HEAD + self.racks + self.codes + PACKET_BYTES * within(random, self.packets) as usize
     }
 
     /// The sheet with one damage more.
     fn damage(&mut self, random: &mut Random, damage: Damage) {
         let length = self.bytes.len() as u32;
         match damage {
-            Damage::Head => self.change(random.below(HEAD as u32) as usize, random),
+            Damage::Head => self.change(random.below((HEAD + self.racks) as u32) as usize, random),
             Damage::Border => self.change_border(random),
             Damage::Anywhere => self.change(random.below(length) as usize, random),
             Damage::Hall => self.change(HALL_AT + random.below(3) as usize, random),
-            Damage::CountOne => self.count(random, 0, 3),
-            Damage::CountTwo => self.count(random, COUNT_TWO_AT, self.codes as u32),
+            Damage::Racks => self.spoil_racks(random),
+            Damage::RacksCut => {
+                self.spoil_racks(random);
+                let left = 1 + random.below(RACKS as u32 - 1) as usize;
+                self.bytes.truncate(RACKS_AT + left);
+            }
+            Damage::CountOne => self.count_one(random),
+            Damage::CountTwo => self.count(random, self.count_two_at(), self.codes as u32),
             Damage::CountThree => self.count(random, self.count_three_at(), self.packets),
             Damage::Code => {
-                let place = CODES_AT + within(random, self.codes as u32) as usize;
+                let place = self.codes_at() + within(random, self.codes as u32) as usize;
                 self.put(place, &[unknown_code(random)]);
             }
             Damage::Uid => {
@@ -372,6 +463,42 @@ impl Draft {
                 let surplus = 1 + random.below(SURPLUS) as usize;
                 self.bytes.extend(any_bytes(random, surplus));
             }
+        }
+    }
+
+    /// Has a number of DCell(1)s stand in the sheet that may not stand there: that of a full hall, one too high, the highest, or, with k
+    /// below 2, any.
+    fn spoil_racks(&mut self, random: &mut Random) {
+        let Hall { n, k, .. } = self.hall;
+        let racks = racks_of(n, k);
+        let count = match random.below(6) {
+            0 | 1 => racks,
+            2 => racks + 1,
+            3 => u32::MAX,
+            4 if k < LEAST_FILLED_K => random.below(3),
+            _ => beyond(random, racks),
+        };
+        if self.racks == 0 && self.bytes.len() >= RACKS_AT {
+            let [_, part] = FIRST_COUNTS;
+            self.put(0, &part.to_be_bytes());
+            self.bytes.splice(RACKS_AT..RACKS_AT, [0; RACKS]);
+            self.racks = RACKS;
+        }
+        self.put(RACKS_AT, &count.to_be_bytes());
+    }
+
+    /// Makes the first count wrong: that of a section of another length, another small one, or any wrong one.
+    fn count_one(&mut self, random: &mut Random) {
+        let [full, part] = FIRST_COUNTS;
+        let (right, other) = if self.racks == 0 {
+            (full, part)
+        } else {
+            (part, full)
+        };
+        match random.below(4) {
+            0 => self.put(0, &other.to_be_bytes()),
+            1 => self.put(0, &random.below(part + 3).to_be_bytes()),
+            _ => self.count(random, 0, right),
         }
     }
 
@@ -414,8 +541,9 @@ impl Draft {
         let third = self.count_three_at();
         let borders = [
             HALL_AT,
-            COUNT_TWO_AT,
-            CODES_AT,
+            RACKS_AT,
+            self.count_two_at(),
+            self.codes_at(),
             third,
             third + 4,
             self.bytes.len(),
@@ -467,10 +595,13 @@ fn any_bytes(random: &mut Random, count: usize) -> Vec<u8> {
     bytes.take(count).collect()
 }
 
-/// A packet of a hall of so many servers, with any retry; its TTL is the highest, low, or any.
-fn any_packet(random: &mut Random, servers: u32) -> [u8; PACKET_BYTES] {
-    let [s0, s1, s2, s3] = within(random, servers).to_be_bytes();
-    let [d0, d1, d2, d3] = within(random, servers).to_be_bytes();
+/// A packet of a hall of so many servers, mostly between fitted ones, with any retry; its TTL is the highest, low, or any.
+fn any_packet(random: &mut Random, hall: Hall, servers: u32) -> [u8; PACKET_BYTES] {
+    let mut server = || match part_server(random, hall) {
+        Some(uid) => uid.to_be_bytes(),
+        None => within(random, servers).to_be_bytes(),
+    };
+    let [[s0, s1, s2, s3], [d0, d1, d2, d3]] = [server(), server()];
     let retry = random.below(u32::from(MOST_RETRY) + 1) as u8;
     let ttl = match random.below(3) {
         0 => u8::MAX,
@@ -487,7 +618,7 @@ fn fitting_hall(random: &mut Random, most: usize) -> Hall {
     }
     loop {
         let hall = sound_hall(random, 0);
-        if HEAD + hall_codes(hall) <= most {
+        if head(hall) + hall_codes(hall) <= most {
             return hall;
         }
     }
@@ -495,13 +626,27 @@ fn fitting_hall(random: &mut Random, most: usize) -> Hall {
 
 /// The most packets of a hall's sheet of at most so many bytes.
 fn most_packets(hall: Hall, most: usize) -> u32 {
-    (most.saturating_sub(HEAD + hall_codes(hall)) / PACKET_BYTES) as u32
+    (most.saturating_sub(head(hall) + hall_codes(hall)) / PACKET_BYTES) as u32
+}
+
+/// The bytes of a hall's sheet without its codes and packets.
+fn head(hall: Hall) -> usize {
+    HEAD + racks_of_sheet(hall)
 }
 
 /// The bytes of a sheet up to its codes.
 fn opening(hall: Hall, codes: usize) -> Vec<u8> {
-    let mut bytes = vec![0, 0, 0, 3];
+    let racks = (!is_full(hall)).then_some(hall.count);
+    opening_with(hall, racks, codes)
+}
+
+/// The bytes of a sheet up to its codes, with a number of DCell(1)s or none.
+fn opening_with(hall: Hall, racks: Option<u32>, codes: usize) -> Vec<u8> {
+    let [full, part] = FIRST_COUNTS;
+    let first = if racks.is_some() { part } else { full };
+    let mut bytes = first.to_be_bytes().to_vec();
     bytes.extend([hall.n, hall.k, hall.b].map(|number| number as u8));
+    bytes.extend(racks.into_iter().flat_map(u32::to_be_bytes));
     bytes.extend((codes as u32).to_be_bytes());
     bytes
 }
@@ -518,22 +663,40 @@ pub fn sample() -> Vec<u8> {
     bytes
 }
 
-/// A sheet of each hall and of some that are none, all up, with a packet; cut at the most bytes where the hall is too large.
+/// The sheet that is tried of a hall that is not full: all up, with a packet.
+fn part_sample() -> Vec<u8> {
+    let mut bytes = opening(PART_HALL, hall_codes(PART_HALL));
+    bytes.extend(vec![UP; hall_codes(PART_HALL)]);
+    bytes.extend(1u32.to_be_bytes());
+    bytes.extend(PART_PACKET);
+    bytes
+}
+
+/// A sheet of each hall and of some that are none, all up, with a packet; cut at the most bytes where the hall is too large. Each is tried
+/// without a number of DCell(1)s, and with every number to try, that of a full hall among them.
 fn hall_sheets() -> impl Iterator<Item = Sheet> {
     let ns = LEAST_N - 1..=MOST_N + 1;
-    let halls = ns.flat_map(|n| (0..=4).flat_map(move |k| (0..=2).map(move |b| Hall { n, k, b })));
+    let halls =
+        ns.flat_map(|n| (0..=4).flat_map(move |k| (0..=2).map(move |b| Hall::full(n, k, b))));
     halls.flat_map(|hall| {
-        let count = hall_codes(hall);
-        let mut bytes = opening(hall, count);
-        bytes.resize((CODES_AT + count).min(SHEET_ROOM), UP);
-        bytes.extend(1u32.to_be_bytes());
-        bytes.extend([0; PACKET_BYTES]);
-        bytes.truncate(SHEET_ROOM);
-        let mut unknown = bytes.clone();
-        let last = (CODES_AT + count).min(SHEET_ROOM) - 1;
-        unknown[last] = KNOWN;
-        [Sheet(bytes), Sheet(unknown)]
+        let counts = edge_counts(hall).into_iter().chain([hall.count]);
+        let racks = iter::once(None).chain(counts.map(Some));
+        racks.flat_map(move |racks| hall_sheet(hall, racks))
     })
+}
+
+/// The sheet of a hall with a number of DCell(1)s or none, and the same with its last code unknown.
+fn hall_sheet(hall: Hall, racks: Option<u32>) -> [Sheet; 2] {
+    let count = hall_codes(hall);
+    let mut bytes = opening_with(hall, racks, count);
+    let end = (bytes.len() + count).min(SHEET_ROOM);
+    bytes.resize(end, UP);
+    bytes.extend(1u32.to_be_bytes());
+    bytes.extend([0; PACKET_BYTES]);
+    bytes.truncate(SHEET_ROOM);
+    let mut unknown = bytes.clone();
+    unknown[end - 1] = KNOWN;
+    [Sheet(bytes), Sheet(unknown)]
 }
 
 #[cfg(test)]
@@ -541,6 +704,7 @@ mod tests {
     use std::collections::BTreeSet;
 
     use super::*;
+    use crate::compare::events::{Met, SECTIONS};
     use peer::sheet;
 
     /// So many sheets of a class.
@@ -581,6 +745,46 @@ mod tests {
     }
 
     #[test]
+    fn sheets_of_halls_that_are_not_full_are_drawn_sound_and_with_every_fault_of_their_count() {
+        let mut met = Met::default();
+        let mut random = Random::new(8);
+        (0..12_000).for_each(|_| met.add_section(&any_sheet(&mut random)));
+        let told: Vec<String> = met.texts().collect();
+        let missing = met.unmet(SECTIONS);
+        assert!(missing.is_empty(), "{missing:?} {told:?}");
+    }
+
+    #[test]
+    fn the_edges_hold_sheets_with_every_fault_of_the_first_section() {
+        let mut met = Met::default();
+        edge_sheets().for_each(|sheet| met.add_section(&sheet));
+        assert_eq!(met.unmet(SECTIONS), []);
+    }
+
+    #[test]
+    fn the_parts_of_a_sheet_of_a_hall_that_is_not_full_are_sound() {
+        let mut random = Random::new(7);
+        let hall = Hall {
+            count: 5,
+            ..Hall::full(3, 2, 1)
+        };
+        let whole = largest(&mut random, hall, 5);
+        assert_eq!(
+            (sheet::read(&whole).refusal, sheet::read(&whole).count),
+            (0, 5)
+        );
+        assert!(whole.len() + PACKET_BYTES > SHEET_ROOM);
+        let one = alone(&whole, hall_codes(hall), 77);
+        assert_eq!(sheet::packet(&one, 0), sheet::packet(&whole, 77));
+        assert_eq!(sheet::read(&one).packets, 1);
+        let none = without_packets(&whole, hall_codes(hall));
+        assert_eq!(
+            (sheet::read(&none).refusal, sheet::read(&none).count),
+            (0, 5)
+        );
+    }
+
+    #[test]
     fn the_edges_of_each_class_meet_every_number_it_can_give() {
         let met = |class: &'static Class| numbers(class.edges().collect::<Vec<Sheet>>().iter());
         for class in [&SMALL, &MIDDLE, &LARGE] {
@@ -593,11 +797,7 @@ mod tests {
     #[test]
     fn the_largest_sheets_are_sound_and_less_than_a_packet_short_of_the_most() {
         let mut random = Random::new(5);
-        for hall in [
-            SAMPLE_HALL,
-            Hall { n: 8, k: 2, b: 1 },
-            Hall { n: 2, k: 3, b: 0 },
-        ] {
+        for hall in [SAMPLE_HALL, Hall::full(8, 2, 1), Hall::full(2, 3, 0)] {
             let sheet = largest(&mut random, hall, 5);
             assert_eq!(sheet::read(&sheet).refusal, 0);
             assert!(sheet.len() + PACKET_BYTES > SHEET_ROOM);

@@ -31,7 +31,7 @@ pub fn run(seed: u64) -> bool {
     let mut random = Random::new(seed);
     let mut failed = 0;
     for (n, k, paper) in ROWS {
-        let hall = Hall { n, k, b: 0 };
+        let hall = Hall::full(n, k, 0);
         let count = servers(hall).unwrap_or(0);
         let sums = sums(hall, count, &mut random);
         let figures = sums.figures();
@@ -95,7 +95,7 @@ mod tests {
 
     #[test]
     fn all_ordered_pairs_of_different_servers_are_taken() {
-        let h = Hall { n: 2, k: 1, b: 0 };
+        let h = Hall::full(2, 1, 0);
         let sums = sums(h, 6, &mut Random::new(0));
         assert_eq!(sums.count, 30);
     }

@@ -6,12 +6,13 @@ use std::iter;
 use std::ops::Deref;
 use std::sync::{Mutex, OnceLock, PoisonError};
 
-use peer::hall::{Hall, MOST_K, MOST_N};
+use peer::hall::{self, Hall, MOST_K, MOST_N};
 use peer::ports::{self, UP};
 use peer::random::Random;
 use peer::refusal::NONE;
 
-use super::inputs::{any_hall, servers, sizes};
+use super::counts::{fitted_server, with_sound_count};
+use super::inputs::{any_hall, sizes};
 
 /// The highest share of codes that are not up, of a hundred.
 const MOST_NOT_UP: u32 = 70;
@@ -40,6 +41,7 @@ const DOUBLINGS: u32 = 9;
 static POOL: OnceLock<Vec<u8>> = OnceLock::new();
 
 /// A table, drawn for one input or a part of what is lent to all.
+#[derive(Clone)]
 pub enum Table {
     Own(Vec<u8>),
     Shared(&'static [u8]),
@@ -104,7 +106,13 @@ pub fn light_hall(random: &mut Random) -> Hall {
     if light(h) {
         return h;
     }
-    Hall { k: MOST_K - 1, ..h }
+    let lower = Hall { k: MOST_K - 1, ..h };
+    let sound = hall::sizes(h).refusal == NONE;
+    if sound {
+        with_sound_count(random, lower)
+    } else {
+        lower
+    }
 }
 
 /// A length that is mostly the right one, else one beside it or any a little above it or below.
@@ -226,10 +234,10 @@ pub fn lent_to_step(h: Hall, hall_table: &[u8], uid: u32) -> Vec<u8> {
     codes
 }
 
-/// A table of the right length for a hall, with so many in a hundred codes not up, and one of the hall's servers. Where the hall is not
-/// light the table is drawn once and shared.
+/// A table of the right length for a hall, with so many in a hundred codes not up, and one of the hall's fitted servers. Where the hall is
+/// not light the table is drawn once and shared.
 pub fn sound_hall_table(random: &mut Random, h: Hall, not_up: u32) -> (Table, u32) {
-    let uid = random.below(servers(h).unwrap_or(1));
+    let uid = fitted_server(random, h).unwrap_or(0);
     if light(h) {
         let codes = codes(random, hall_codes(h), not_up);
         return (Table::Own(codes), uid);
@@ -256,11 +264,7 @@ fn code(random: &mut Random, not_up: u32) -> u8 {
 
 /// The pool of a seed: a table of the largest hall, and more for the other places it may begin at.
 fn drawn_pool(seed: u64) -> Vec<u8> {
-    let largest = Hall {
-        n: MOST_N,
-        k: MOST_K,
-        b: 0,
-    };
+    let largest = Hall::full(MOST_N, MOST_K, 0);
     pool_of(seed, hall_codes(largest) + PLACES)
 }
 
@@ -282,9 +286,9 @@ mod tests {
 
     #[test]
     fn tables_have_the_lengths_of_their_halls() {
-        let h = Hall { n: 4, k: 1, b: 0 };
+        let h = Hall::full(4, 1, 0);
         assert_eq!((hall_codes(h), cell_codes(h)), (40, 8));
-        let h = Hall { n: 3, k: 3, b: 1 };
+        let h = Hall::full(3, 3, 1);
         assert_eq!((hall_codes(h), cell_codes(h)), (97_968, 48));
         let mut random = Random::new(1);
         let (table, uid) = sound_hall_table(&mut random, h, 5);
@@ -294,7 +298,7 @@ mod tests {
 
     #[test]
     fn the_largest_table_of_a_step_has_432_codes_and_one_of_top_level_b_no_far_ones() {
-        let codes = |n, k, b| step_codes(Hall { n, k, b });
+        let codes = |n, k, b| step_codes(Hall::full(n, k, b));
         assert_eq!(codes(8, 3, 1), 432);
         assert_eq!(
             [codes(8, 3, 0), codes(2, 2, 0), codes(2, 2, 1)],
@@ -307,8 +311,8 @@ mod tests {
     fn tables_of_a_step_have_mostly_the_right_length_and_every_wrong_one_is_met() {
         let mut random = Random::new(7);
         for (h, [cell, right, hall]) in [
-            (Hall { n: 2, k: 3, b: 1 }, [24, 36, 7_224]),
-            (Hall { n: 4, k: 3, b: 0 }, [16, 28, 707_280]),
+            (Hall::full(2, 3, 1), [24, 36, 7_224]),
+            (Hall::full(4, 3, 0), [16, 28, 707_280]),
         ] {
             let lengths: Vec<usize> = (0..2_000)
                 .map(|_| any_step_table(&mut random, h).len())
@@ -323,7 +327,7 @@ mod tests {
 
     #[test]
     fn codes_lent_to_a_step_are_those_of_its_cell_and_of_the_far_ports() {
-        let h = Hall { n: 4, k: 1, b: 0 };
+        let h = Hall::full(4, 1, 0);
         let table: Vec<u8> = (0..40).collect();
         let lent = [0, 1, 2, 3, 4, 5, 6, 7, 9, 17, 25, 33];
         assert_eq!(lent_to_step(h, &table, 2), lent);
@@ -331,7 +335,7 @@ mod tests {
 
     #[test]
     fn a_table_that_is_shared_has_the_share_that_was_asked() {
-        let h = Hall { n: 3, k: 3, b: 1 };
+        let h = Hall::full(3, 3, 1);
         let mut random = Random::new(6);
         for (share, least, most) in [(0, 0, 0), (5, 4_000, 6_000)] {
             let (table, _) = sound_hall_table(&mut random, h, share);
@@ -372,7 +376,7 @@ mod tests {
 
     #[test]
     fn two_tables_of_one_heavy_hall_are_different_parts_of_the_pool() {
-        let h = Hall { n: 3, k: 3, b: 0 };
+        let h = Hall::full(3, 3, 0);
         let mut random = Random::new(9);
         let mut table = || {
             any_hall_table(&mut random, h)
@@ -384,7 +388,7 @@ mod tests {
 
     #[test]
     fn heavy_tables_serve_the_right_length_and_one_code_more() {
-        let h = Hall { n: 3, k: 3, b: 0 };
+        let h = Hall::full(3, 3, 0);
         let mut random = Random::new(4);
         let mut met = [false; 3];
         for _ in 0..1000 {

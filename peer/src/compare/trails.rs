@@ -84,7 +84,7 @@ fn crosses_the_most(at: &Far) -> bool {
 
 /// The hall of trails with n servers on a switch.
 const fn hall_of(n: u32) -> Hall {
-    Hall { n, k: 3, b: 1 }
+    Hall::full(n, 3, 1)
 }
 
 /// A hall table with the way of one packet through it.

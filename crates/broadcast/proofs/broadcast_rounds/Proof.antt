@@ -1,5 +1,5 @@
--- `broadcast::broadcast_rounds` meets its contract: refused, it leaves the room as lent; else the run of the table for the source's DCell(s)
--- lies within the table, and the rounds over it are the rounds over the hall table.
+-- `broadcast::broadcast_rounds` meets its contract: refused, it leaves the room as lent; from a source that is not fitted it leaves the room as begun; else
+-- the run of the table for the source's DCell(s) lies within the table, and the rounds over it, among the fitted servers, are those of the hall table.
 use mathlib.Core.Path.{_≡_, refl, _∙_, sym}
 use Prim.Native.Nat.{_+_, _-_, _*_}
 use native.Mathlib.Nat.{div-le-self}
@@ -7,7 +7,7 @@ use native.Mathlib.Omega.{arith}
 use borrow.Author.Needs.{needs}
 use Rattle.ports.proofs.Parts.{product-fits}
 use Rattle.broadcast.specs.Broadcasts.{scopeSize}
-use Rattle.broadcast.proofs.Calls.{scope-size, accepted, answer-refused, room-as-lent, size-pos, origin-low, run-ends, run-is, begun-ready, room-long, room-at-exit, answer-is}
+use Rattle.broadcast.proofs.Calls.{scope-size, Accepted, accepted, answer-refused, room-as-lent, size-pos, scoped, origin-low, run-ends, run-is, room-alone, answer-alone, begun-ready, room-long, room-at-exit, answer-is}
 use Rattle.broadcast.proofs.broadcast_rounds.Statement.{statement}
 use Rattle.broadcast.proofs.broadcast_rounds.Tie as tie
 
@@ -28,12 +28,16 @@ returns c =
 size-of-requires : tie.Need-size-of-requires
 size-of-requires c κs = search needs
 
+-- what is known once the size is
+taken : (c : tie.After-size-of) → let a = c .before .before .before .before .before .before .args in Accepted (a .h) (a .table .now) (a .source) (a .scope) (a .room .now)
+taken c =
+    let a = c .before .before .before .before .before .before .args in
+    accepted (a .h) (a .table .now) (a .source) (a .scope) (a .room .now) (sym (c .before .before .refused .ensures) ∙ c .before .if1 .left)
+
 sized : (c : tie.After-size-of) → let a = c .before .before .before .before .before .before .args in c .size-of .result ≡ scopeSize (a .h) (a .scope)
 sized c =
     let a = c .before .before .before .before .before .before .args in
-    let n = c .before .before .refused in
-    let k = accepted (a .h) (a .table .now) (a .source) (a .scope) (a .room .now) (sym (n .ensures) ∙ c .before .if1 .left) in
-    scope-size (a .h) (a .scope) _ (k .sound .is-valid) (k .scope) (c .size-of .ensures)
+    scope-size (a .h) (a .scope) _ (taken c .sound .is-valid) (taken c .scope) (c .size-of .ensures)
 
 cast-bytes : tie.Need-cast-bytes
 cast-bytes c = search needs
@@ -50,11 +54,9 @@ mul-bytes c = omega (arith, product-fits (c .before .size-of .result) (c .before
 div-from : tie.Need-div-from
 div-from c =
     let a = c .before .before .before .before .before .before .before .args in
-    let n = c .before .before .before .refused in
-    let k = accepted (a .h) (a .table .now) (a .source) (a .scope) (a .room .now) (sym (n .ensures) ∙ c .before .before .if1 .left) in
     let w = c .before in
     let z = w .size-of in
-    size-pos (a .h) (a .table .now) (a .source) (a .scope) (a .room .now) k (z .result) (sized w)
+    size-pos (a .h) (a .table .now) (a .source) (a .scope) (a .room .now) (taken w) (z .result) (sized w)
 
 cast-from : tie.Need-cast-from
 cast-from c = omega (arith, div-le-self (c .before .before .before .before .before .before .before .args .source) (c .before .size-of .result))
@@ -62,38 +64,52 @@ cast-from c = omega (arith, div-le-self (c .before .before .before .before .befo
 mul-from : tie.Need-mul-from
 mul-from c =
     let a = c .before .before .before .before .before .before .before .args in
-    let n = c .before .before .before .refused in
-    let k = accepted (a .h) (a .table .now) (a .source) (a .scope) (a .room .now) (sym (n .ensures) ∙ c .before .before .if1 .left) in
     let w = c .before in
     let z = w .size-of in
-    omega (arith, run-ends (a .h) (a .table .now) (a .source) (a .scope) (a .room .now) k (z .result) (sized w) (z .result * (a .h .k + 1)) refl)
+    omega (arith, run-ends (a .h) (a .table .now) (a .source) (a .scope) (a .room .now) (taken w) (z .result) (sized w) (z .result * (a .h .k + 1)) refl)
 
 add-to : tie.Need-add-to
 add-to c =
     let a = c .before .before .before .before .before .before .before .args in
-    let n = c .before .before .before .refused in
-    let k = accepted (a .h) (a .table .now) (a .source) (a .scope) (a .room .now) (sym (n .ensures) ∙ c .before .before .if1 .left) in
     let w = c .before in
     let z = w .size-of in
-    omega (arith, run-ends (a .h) (a .table .now) (a .source) (a .scope) (a .room .now) k (z .result) (sized w) (z .result * (a .h .k + 1)) refl)
+    omega (arith, run-ends (a .h) (a .table .now) (a .source) (a .scope) (a .room .now) (taken w) (z .result) (sized w) (z .result * (a .h .k + 1)) refl)
 
 rem-origin : tie.Need-rem-origin
 rem-origin c =
     let a = c .before .before .before .before .before .before .before .args in
-    let n = c .before .before .before .refused in
-    let k = accepted (a .h) (a .table .now) (a .source) (a .scope) (a .room .now) (sym (n .ensures) ∙ c .before .before .if1 .left) in
     let w = c .before in
     let z = w .size-of in
-    size-pos (a .h) (a .table .now) (a .source) (a .scope) (a .room .now) k (z .result) (sized w)
+    size-pos (a .h) (a .table .now) (a .source) (a .scope) (a .room .now) (taken w) (z .result) (sized w)
+
+fitted-places-requires : tie.Need-fitted-places-requires
+fitted-places-requires c κs =
+    let a = c .before .before .before .before .before .before .before .args in
+    let w = c .before in
+    let z = w .size-of in
+    scoped (a .h) (a .table .now) (a .source) (a .scope) (a .room .now) (taken w) (z .result) (sized w)
 
 begin-requires : tie.Need-begin-requires
 begin-requires c κs =
-    let a = c .before .before .before .before .before .before .before .before .args in
-    let n = c .before .before .before .before .refused in
-    let k = accepted (a .h) (a .table .now) (a .source) (a .scope) (a .room .now) (sym (n .ensures) ∙ c .before .before .before .if1 .left) in
-    let w = c .before .before in
+    let a = c .before .before .before .before .before .before .before .before .before .args in
+    let w = c .before .before .before in
     let z = w .size-of in
-    (rw (sized w) (k .long), origin-low (a .h) (a .table .now) (a .source) (a .scope) (a .room .now) k (z .result) (sized w))
+    (rw (sized w) (taken w .long), origin-low (a .h) (a .table .now) (a .source) (a .scope) (a .room .now) (taken w) (z .result) (sized w))
+
+same-length-2 : tie.Need-same-length-2
+same-length-2 c = search needs
+
+returns-2 : tie.Need-returns-2
+returns-2 c =
+    let a = c .before .before .before .before .before .before .before .before .before .before .before .before .before .args in
+    let w = c .before .before .before .before .before .before .before in
+    let z = w .size-of in
+    let n = c .before .before .before .before .before .before .before .before .before .refused in
+    let f = c .before .before .before .before .before .fitted-places in
+    let m = c .before .before .before .begin .ensures in (
+      answer-alone (a .h) (a .table .now) (a .source) (a .scope) (a .room .now) (taken w) (z .result) (sized w) (f .result) (f .ensures) _ m (n .result) (n .ensures) (c .before .before .before .before .before .before .before .before .if1 .left) (c .if2 .taken),
+      room-alone (a .h) (a .table .now) (a .source) (a .scope) (a .room .now) (taken w) (z .result) (sized w) (f .result) (f .ensures) _ m (n .result) (n .ensures) (c .before .before .before .before .before .before .before .before .if1 .left) (c .if2 .taken),
+    )
 
 sub-run : tie.Need-sub-run
 sub-run c = search needs
@@ -103,43 +119,41 @@ part-run-start c = search needs
 
 part-run-end : tie.Need-part-run-end
 part-run-end c =
-    let a = c .before .before .before .before .before .before .before .before .before .before .before .args in
-    let n = c .before .before .before .before .before .before .before .refused in
-    let k = accepted (a .h) (a .table .now) (a .source) (a .scope) (a .room .now) (sym (n .ensures) ∙ c .before .before .before .before .before .before .if1 .left) in
-    let w = c .before .before .before .before .before in
+    let a = c .before .before .before .before .before .before .before .before .before .before .before .before .before .args in
+    let w = c .before .before .before .before .before .before .before in
     let z = w .size-of in
-    omega (arith, run-ends (a .h) (a .table .now) (a .source) (a .scope) (a .room .now) k (z .result) (sized w) (z .result * (a .h .k + 1)) refl)
+    omega (arith, run-ends (a .h) (a .table .now) (a .source) (a .scope) (a .room .now) (taken w) (z .result) (sized w) (z .result * (a .h .k + 1)) refl)
 
 run-requires : tie.Need-run-requires
 run-requires c κs =
-    let a = c .before .before .before .before .before .before .before .before .before .before .before .before .before .args in
-    let n = c .before .before .before .before .before .before .before .before .before .refused in
-    let k = accepted (a .h) (a .table .now) (a .source) (a .scope) (a .room .now) (sym (n .ensures) ∙ c .before .before .before .before .before .before .before .before .if1 .left) in
-    let w = c .before .before .before .before .before .before .before in
+    let a = c .before .before .before .before .before .before .before .before .before .before .before .before .before .before .before .args in
+    let w = c .before .before .before .before .before .before .before .before .before in
     let z = w .size-of in
-    begun-ready (a .h) (a .table .now) (a .source) (a .scope) (a .room .now) k (z .result) (sized w) _ (c .before .before .before .before .begin .ensures)
+    let n = c .before .before .before .before .before .before .before .before .before .before .before .refused in
+    let f = c .before .before .before .before .before .before .before .fitted-places in
+    begun-ready (a .h) (a .table .now) (a .source) (a .scope) (a .room .now) (taken w) (z .result) (sized w) (f .result) (f .ensures) _ (c .before .before .before .before .before .begin .ensures) (n .result) (n .ensures) (c .before .before .before .before .before .before .before .before .before .before .if1 .left) (c .before .before .if2 .left)
 
 tally-requires : tie.Need-tally-requires
 tally-requires c κs =
-    let a = c .before .before .before .before .before .before .before .before .before .before .before .before .before .before .before .before .before .args in
-    let n = c .before .before .before .before .before .before .before .before .before .before .before .before .before .refused in
-    let k = accepted (a .h) (a .table .now) (a .source) (a .scope) (a .room .now) (sym (n .ensures) ∙ c .before .before .before .before .before .before .before .before .before .before .before .before .if1 .left) in
-    let w = c .before .before .before .before .before .before .before .before .before .before .before in
+    let a = c .before .before .before .before .before .before .before .before .before .before .before .before .before .before .before .before .before .before .before .args in
+    let w = c .before .before .before .before .before .before .before .before .before .before .before .before .before in
     let z = w .size-of in
-    room-long (a .h) (a .table .now) (a .source) (a .scope) (a .room .now) k (z .result) (sized w) _ (c .before .before .before .before .before .before .before .before .begin .ensures) _ (run-is (a .h) (a .table .now) (a .source) (a .scope) (a .room .now) k (z .result) (sized w) (z .result * (a .h .k + 1)) refl) _ (c .before .before .before .run .ensures)
+    let n = c .before .before .before .before .before .before .before .before .before .before .before .before .before .before .before .refused in
+    let f = c .before .before .before .before .before .before .before .before .before .before .before .fitted-places in
+    room-long (a .h) (a .table .now) (a .source) (a .scope) (a .room .now) (taken w) (z .result) (sized w) (f .result) (f .ensures) _ (c .before .before .before .before .before .before .before .before .before .begin .ensures) (n .result) (n .ensures) (c .before .before .before .before .before .before .before .before .before .before .before .before .before .before .if1 .left) (c .before .before .before .before .before .before .if2 .left) _ (run-is (a .h) (a .table .now) (a .source) (a .scope) (a .room .now) (taken w) (z .result) (sized w) (z .result * (a .h .k + 1)) refl) _ (c .before .before .before .run .ensures)
 
-same-length-2 : tie.Need-same-length-2
-same-length-2 c = search needs
+same-length-3 : tie.Need-same-length-3
+same-length-3 c = search needs
 
-returns-2 : tie.Need-returns-2
-returns-2 c =
-    let a = c .before .before .before .before .before .before .before .before .before .before .before .before .before .before .before .before .before .before .args in
-    let n = c .before .before .before .before .before .before .before .before .before .before .before .before .before .before .refused in
-    let k = accepted (a .h) (a .table .now) (a .source) (a .scope) (a .room .now) (sym (n .ensures) ∙ c .before .before .before .before .before .before .before .before .before .before .before .before .before .if1 .left) in
-    let w = c .before .before .before .before .before .before .before .before .before .before .before .before in
-    let z = w .size-of in (
-      answer-is (a .h) (a .table .now) (a .source) (a .scope) (a .room .now) k (z .result) (sized w) _ (c .before .before .before .before .before .before .before .before .before .begin .ensures) _ (run-is (a .h) (a .table .now) (a .source) (a .scope) (a .room .now) k (z .result) (sized w) (z .result * (a .h .k + 1)) refl) _ (c .before .before .before .before .run .ensures) (n .result) (n .ensures) (c .before .before .before .before .before .before .before .before .before .before .before .before .before .if1 .left) (c .tally .result) (c .tally .ensures),
-      room-at-exit (a .h) (a .table .now) (a .source) (a .scope) (a .room .now) k (z .result) (sized w) _ (c .before .before .before .before .before .before .before .before .before .begin .ensures) _ (run-is (a .h) (a .table .now) (a .source) (a .scope) (a .room .now) k (z .result) (sized w) (z .result * (a .h .k + 1)) refl) _ (c .before .before .before .before .run .ensures) (n .result) (n .ensures) (c .before .before .before .before .before .before .before .before .before .before .before .before .before .if1 .left),
+returns-3 : tie.Need-returns-3
+returns-3 c =
+    let a = c .before .before .before .before .before .before .before .before .before .before .before .before .before .before .before .before .before .before .before .before .args in
+    let w = c .before .before .before .before .before .before .before .before .before .before .before .before .before .before in
+    let z = w .size-of in
+    let n = c .before .before .before .before .before .before .before .before .before .before .before .before .before .before .before .before .refused in
+    let f = c .before .before .before .before .before .before .before .before .before .before .before .before .fitted-places in (
+      answer-is (a .h) (a .table .now) (a .source) (a .scope) (a .room .now) (taken w) (z .result) (sized w) (f .result) (f .ensures) _ (c .before .before .before .before .before .before .before .before .before .before .begin .ensures) (n .result) (n .ensures) (c .before .before .before .before .before .before .before .before .before .before .before .before .before .before .before .if1 .left) (c .before .before .before .before .before .before .before .if2 .left) _ (run-is (a .h) (a .table .now) (a .source) (a .scope) (a .room .now) (taken w) (z .result) (sized w) (z .result * (a .h .k + 1)) refl) _ (c .before .before .before .before .run .ensures) (c .tally .result) (c .tally .ensures),
+      room-at-exit (a .h) (a .table .now) (a .source) (a .scope) (a .room .now) (taken w) (z .result) (sized w) (f .result) (f .ensures) _ (c .before .before .before .before .before .before .before .before .before .before .begin .ensures) (n .result) (n .ensures) (c .before .before .before .before .before .before .before .before .before .before .before .before .before .before .before .if1 .left) (c .before .before .before .before .before .before .before .if2 .left) _ (run-is (a .h) (a .table .now) (a .source) (a .scope) (a .room .now) (taken w) (z .result) (sized w) (z .result * (a .h .k + 1)) refl) _ (c .before .before .before .before .run .ensures),
     )
 
 pub broadcast-rounds-spec : {M : Type 1} → statement M
@@ -159,11 +173,14 @@ broadcast-rounds-spec =
     mul-from
     add-to
     rem-origin
+    fitted-places-requires
     begin-requires
+    same-length-2
+    returns-2
     sub-run
     part-run-start
     part-run-end
     run-requires
     tally-requires
-    same-length-2
-    returns-2)
+    same-length-3
+    returns-3)

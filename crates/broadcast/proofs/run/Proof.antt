@@ -10,7 +10,7 @@ use Rattle.ports.specs.Links.{joined}
 use Rattle.search.specs.Rounds.{marks}
 use Rattle.broadcast.specs.Broadcasts.{none}
 use Rattle.broadcast.proofs.Reaches.{scope-fits, fits-next}
-use Rattle.broadcast.proofs.Whole.{ready-marks, next-marks, idle-marks}
+use Rattle.broadcast.proofs.Whole.{ready-marks, ready-behind, next-marks, idle-marks}
 use Rattle.broadcast.proofs.run.Statement.{statement}
 use Rattle.broadcast.proofs.run.Tie as tie
 
@@ -46,7 +46,8 @@ returns c =
     let w = c .before .before .before .before .before .before .loop in
     let f = c .before .before .before .one-round in
     let fits = fits-next (a .h) (a .scope) (a .size) 0 (a .room .now) (k .fits) (w .room) (w .r) (w .inv .1) (omega (arith, scope-fits (a .h) (a .scope) (a .size) 0 (a .room .now) (k .fits))) in
-    idle-marks (a .h) (a .table .now) (a .scope) (a .size) (a .origin) (w .r) (w .room) _ (drop (a .size) (a .room .now)) (f .result) fits (w .inv .2) (f .ensures)
+    let behind = ready-behind (a .h) (a .table .now) (a .scope) (a .size) (a .origin) (w .r) (a .room .now) (w .room) k (w .inv .2) in
+    idle-marks (a .h) (a .table .now) (a .scope) (a .size) (a .origin) (w .r) (w .room) _ (drop (a .size) (a .room .now)) (f .result) fits behind (w .inv .2) (f .ensures)
     (k .low) (c .before .before .before .before .before .loop-test .taken) (not-true (f .result) (c .if1 .taken))
 
 add-r : tie.Need-add-r Inv-loop μ-loop
@@ -64,10 +65,11 @@ loop-again c =
     let k = c .before .before .before .before .before .before .before .before .before .pre in
     let w = c .before .before .before .before .before .before .loop in
     let f = c .before .before .before .one-round in
-    let fits = fits-next (a .h) (a .scope) (a .size) 0 (a .room .now) (k .fits) (w .room) (w .r) (w .inv .1) (omega (arith, scope-fits (a .h) (a .scope) (a .size) 0 (a .room .now) (k .fits))) in (
+    let fits = fits-next (a .h) (a .scope) (a .size) 0 (a .room .now) (k .fits) (w .room) (w .r) (w .inv .1) (omega (arith, scope-fits (a .h) (a .scope) (a .size) 0 (a .room .now) (k .fits))) in
+    let behind = ready-behind (a .h) (a .table .now) (a .scope) (a .size) (a .origin) (w .r) (a .room .now) (w .room) k (w .inv .2) in (
       omega arith,
       f .ensures .long ∙ w .inv .1,
-      next-marks (a .h) (a .table .now) (a .scope) (a .size) (a .origin) (w .r) (w .room) _ (drop (a .size) (a .room .now)) (f .result) fits (w .inv .2) (f .ensures),
+      next-marks (a .h) (a .table .now) (a .scope) (a .size) (a .origin) (w .r) (w .room) _ (drop (a .size) (a .room .now)) (f .result) fits behind (w .inv .2) (f .ensures),
     )
 
 same-length-2 : tie.Need-same-length-2 Inv-loop μ-loop

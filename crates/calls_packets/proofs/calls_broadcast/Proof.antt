@@ -29,7 +29,7 @@ same-length c = search needs
 returns : tie.Need-returns
 returns c =
     let a = c .before .before .before .before .before .before .before .before .args in
-    let h : Hall = hallOf (a .n) (a .k) (a .b) in
+    let h : Hall = hallOf (a .n) (a .k) (a .b) (a .count) in
     let r = c .before .before .broadcast-rounds in
     let short = c .before .before .before .before .if1 .taken in (
       ap (λ (answer : Broadcast). answer .refusal) (r .ensures .0) ∙ short-told h (a .table .now) (a .source) (a .scope) (a .rounds .now) (a .room .now) short,
@@ -62,7 +62,7 @@ returns-2 c =
     let o = c .before .before .tell in (
       rw (← r .ensures .0) (o .ensures .0),
       (
-        r .ensures .1 ∙ long-rounds (hallOf (a .n) (a .k) (a .b)) (a .table .now) (a .source) (a .scope) (a .rounds .now) (a .room .now) (c .before .before .before .before .before .before .before .before .before .if1 .left),
+        r .ensures .1 ∙ long-rounds (hallOf (a .n) (a .k) (a .b) (a .count)) (a .table .now) (a .source) (a .scope) (a .rounds .now) (a .room .now) (c .before .before .before .before .before .before .before .before .before .if1 .left),
         rw (← r .ensures .0) (o .ensures .1),
       ),
     )

@@ -14,7 +14,7 @@ use Rattle.forward.proofs.+reroute+step_from.Lts-reroute as reroute-lts
 use Rattle.forward.proofs.step_from.Reads as step-from
 use Rattle.forward.proofs.step_from.Kinds as step-from-kinds
 use Rattle.forward.proofs.+reroute+step_from.Lts-step_from as step-from-lts
-use Rattle.forward.proofs.counted.Reads as counted-reads
+use Rattle.forward.proofs.one_more.Reads as one-more-reads
 use Rattle.forward.proofs.ended.Reads as ended-reads
 use Rattle.forward.proofs.goal.Reads as goal-reads
 use Rattle.forward.proofs.look.Reads as look-reads
@@ -58,8 +58,8 @@ reroute-env t = (
   look-reads.Learnt,
   step-from-below t,
   step-from.Post,
-  counted-reads.Asked,
-  counted-reads.Learnt,
+  one-more-reads.Asked,
+  one-more-reads.Learnt,
 )
 
 abbrev step-from-env : ℕ → step-from-lts.Claims
@@ -109,8 +109,8 @@ reroute-step-from-requires t c κs = (
   ),
 )
 
-reroute-counted-requires : (t : ℕ) → reroute-lts.Need-counted-requires (reroute-env t) (reroute-at t) reroute.Post
-reroute-counted-requires t c κs =
+reroute-one-more-requires : (t : ℕ) → reroute-lts.Need-one-more-requires (reroute-env t) (reroute-at t) reroute.Post
+reroute-one-more-requires t c κs =
     omega (
       arith,
       step-few _ _ _ _ _ _ _ (c .step-from .ensures),
@@ -125,7 +125,7 @@ reroute-returns-2 t c =
 
 reroute-returns-3 : (t : ℕ) → reroute-lts.Need-returns-3 (reroute-env t) (reroute-at t) reroute.Post
 reroute-returns-3 t c =
-    reroute-again _ _ _ _ _ _ (c .before .before .before .before .before .before .before .before .before .if1 .left) _ (c .before .before .before .before .before .before .before .before .retried .ensures) _ _ (c .before .before .before .before .before .before .before .turn .ensures) _ (c .before .before .before .before .before .packet .given .1) _ _ (c .before .step-from .ensures) (c .counted .ensures)
+    reroute-again _ _ _ _ _ _ (c .before .before .before .before .before .before .before .before .before .if1 .left) _ (c .before .before .before .before .before .before .before .before .retried .ensures) _ _ (c .before .before .before .before .before .before .before .turn .ensures) _ (c .before .before .before .before .before .packet .given .1) _ _ (c .before .step-from .ensures) (c .one-more .ensures)
 
 step-from-enum-known-outlook : (t : ℕ) → step-from-lts.Need-enum-known-outlook (step-from-env t) (step-from-at t) step-from.Post
 step-from-enum-known-outlook t c = search needs
@@ -172,7 +172,7 @@ pub +reroute+step-from-spec : {M : Type 1} → statement M
     (reroute-goal-requires t)
     (reroute-look-requires t)
     (reroute-step-from-requires t)
-    (reroute-counted-requires t)
+    (reroute-one-more-requires t)
     (reroute-returns-2 t)
     (reroute-returns-3 t))
     (λ t. step-from-lts.spec (step-from-env t) (step-from-at t) step-from.Post

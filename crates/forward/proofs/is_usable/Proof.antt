@@ -1,59 +1,23 @@
--- `forward::is_usable` meets its contract: what the near end is lent has both codes, or the hall table has them at both ends.
-use mathlib.Core.Path.{_≡_, _∙_}
-use native.Mathlib.Omega.{arith}
-use borrow.Author.Tests.{not-true, not-false}
+-- `forward::is_usable` meets its contract: a link counts where both its ends are up and both its servers fitted.
 use borrow.Author.Needs.{needs}
-use Rattle.hall.proofs.Growth.{valid-known}
-use Rattle.local.specs.Local.{cellSize}
-use Rattle.local.proofs.Sizes.{cell-size, size-pos, place-under}
-use Rattle.forward.proofs.CodeTables.{own-length, own-usable, near-closed, far-decides}
+use borrow.Author.Tests.{not-true, not-false}
+use Rattle.forward.proofs.CodeTables.{crossed-servers, link-shut, link-fitted}
 use Rattle.forward.proofs.is_usable.Statement.{statement}
 use Rattle.forward.proofs.is_usable.Tie as tie
 
-size-of-requires : tie.Need-size-of-requires
-size-of-requires c κs = search needs
-
-sized : (c : tie.After-size-of) → c .size-of .result ≡ cellSize (c .before .before .before .args .h)
-sized c = cell-size _ _ (c .before .before .before .pre .here .sound) (c .size-of .ensures)
-
-rem-is-open : tie.Need-rem-is-open
-rem-is-open c = omega (arith, size-pos _ (valid-known _ (c .before .before .before .pre .here .sound)), sized c)
-
-is-open-requires : tie.Need-is-open-requires
-is-open-requires c κs =
-    let a = c .before .before .before .pre in (
-      record { sound = a .here .sound; inside = place-under _ (valid-known _ (a .here .sound)) _ _ (sized c); low = a .low; high = a .high },
-      own-length _ _ _ _ (a .here) (not-true _ (c .before .if1 .taken)),
-    )
+is-up-over-requires : tie.Need-is-up-over-requires
+is-up-over-requires c κs = search needs
 
 returns : tie.Need-returns
-returns c = c .is-open .ensures ∙ own-usable _ (c .before .before .before .before .args .whole) _ _ _ _ (not-true _ (c .before .before .if1 .taken)) (sized (c .before))
+returns c = let f = c .before .is-up-over in link-shut _ _ _ _ _ _ _ (c .before .before .before .pre) (f .ensures) (not-true (f .result) (c .if1 .taken))
 
-is-up-requires : tie.Need-is-up-requires
-is-up-requires c κs = search needs
+are-fitted-requires : tie.Need-are-fitted-requires
+are-fitted-requires c κs = crossed-servers _ _ _ _ _ _ (c .before .before .before .pre)
 
 returns-2 : tie.Need-returns-2
 returns-2 c =
-    let f = c .before .is-up in
-    near-closed _ _ _ _ _ _ (c .before .before .before .before .pre) (not-false _ (c .before .before .if1 .left)) _ (f .ensures) (not-true (f .result) (c .if2 .taken))
-
-is-up-requires-2 : tie.Need-is-up-requires-2
-is-up-requires-2 c κs = search needs
-
-returns-3 : tie.Need-returns-3
-returns-3 c =
-    let f = c .before .before .is-up in
-    far-decides _ _ _ _ _ _ (c .before .before .before .before .before .pre) (not-false _ (c .before .before .before .if1 .left)) _ (f .ensures) (not-false (f .result) (c .before .if2 .left)) _ (c .is-up2 .ensures)
+    let f = c .before .before .is-up-over in
+    link-fitted _ _ _ _ _ _ _ (c .before .before .before .before .pre) (f .ensures) (not-false (f .result) (c .before .if1 .left)) _ (c .are-fitted .ensures)
 
 pub is-usable-spec : {M : Type 1} → statement M
-is-usable-spec =
-    tie.close
-    (tie.spec
-    size-of-requires
-    rem-is-open
-    is-open-requires
-    returns
-    is-up-requires
-    returns-2
-    is-up-requires-2
-    returns-3)
+is-usable-spec = tie.close (tie.spec is-up-over-requires returns are-fitted-requires returns-2)

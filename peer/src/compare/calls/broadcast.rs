@@ -21,6 +21,8 @@ const VALUES: usize = 2;
 const MOST_SERVERS: usize = 5_256;
 /// The servers that a scope which is none is called as if it had.
 const SUPPOSED_SERVERS: usize = 20;
+/// Whose server shuts a port is looked for in tables of at most so many codes.
+const LOOKED_AT: usize = 2_000;
 /// One input in so many is a chain.
 const CHAIN: u32 = 64;
 /// The chains of each hall that every comparison tries.
@@ -41,8 +43,11 @@ const CHAIN_HALLS: [(u32, u32); 10] = [
 /// The chains drawn at random are of so many of these halls, the first and least ones.
 const LIGHT_CHAINS: u32 = 6;
 
-/// The first room short, the second, and both: on sound input, and beside each other refusal.
-const SHORT: &[Event] = &[
+/// What a comparison has to meet: the first room short, the second, and both, on sound input and beside each other refusal; and a port that
+/// is shut for its own server, or for its far one.
+const MET: &[Event] = &[
+    Event::OwnServer,
+    Event::FarServer,
     short(ROOM, [true, false]),
     short(ROOM, [false, true]),
     short(ROOM, [true, true]),
@@ -74,7 +79,7 @@ impl Call for Broadcast {
 
     const NAME: &'static str = "broadcast";
     const NUMBERS: &'static [u32] = &[NONE, HALL, UID, LENGTH, ROOM, SCOPE];
-    const EVENTS: &'static [Event] = SHORT;
+    const EVENTS: &'static [Event] = MET;
     const INPUTS: u32 = 200_000;
     const MEASURED: usize = 4;
 
@@ -108,6 +113,9 @@ impl Call for Broadcast {
         if short != [false; 2] {
             met.add(Event::Short { number, short });
         }
+        if number == NONE && input.table.len() <= LOOKED_AT {
+            input.count_fitted(met);
+        }
     }
 
     fn rooms(input: &Input, random: &mut Random) -> Self::Rooms {
@@ -139,6 +147,21 @@ impl Call for Broadcast {
     }
 }
 
+impl Input {
+    /// Counts whose server shuts a port that decides a sound broadcast.
+    fn count_fitted(&self, met: &mut Met) {
+        let told = |hall: Hall, table: &[u8]| {
+            let mut rounds = vec![0; servers_of(hall, self.scope).unwrap_or(0)];
+            let answer = broadcast::broadcast(hall, self.source, self.scope, table, &mut rounds);
+            (answer, rounds)
+        };
+        let own = told(self.hall, &self.table);
+        met.add_fitted(self.hall, self.source, 0, &self.table, |hall, table| {
+            own != told(hall, table)
+        });
+    }
+}
+
 /// The event of a call with one of its rooms or both short that returned a number.
 const fn short(number: u32, short: [bool; 2]) -> Event {
     Event::Short { number, short }
@@ -153,7 +176,7 @@ fn servers_of(h: Hall, scope: u32) -> Option<usize> {
 
 /// A hall in which one chain is up, with a source on the chain, mostly its first server.
 fn chain(random: &mut Random, n: u32, k: u32) -> Input {
-    let hall = Hall { n, k, b: 0 };
+    let hall = Hall::full(n, k, 0);
     let scope = k.min(MOST_SCOPE);
     let start = random.below(servers(hall).unwrap_or(1));
     let chain = Chain::from(random, hall, scope, start);
@@ -214,7 +237,7 @@ mod tests {
     /// The number that the peer's side returns with rooms of these lengths, and whether it left both as lent.
     fn lent(source: u32, rounds: usize, counts: usize) -> (u32, bool) {
         let input = Input {
-            hall: Hall { n: 4, k: 1, b: 0 },
+            hall: Hall::full(4, 1, 0),
             table: Table::Own(vec![1; 40]),
             source,
             scope: 1,

@@ -7,6 +7,7 @@ use peer::refusal::{CODE, HALL, LENGTH, NONE};
 
 use crate::compare::call::Call;
 use crate::compare::cases::{by_share, Case};
+use crate::compare::counts::is_full;
 use crate::compare::inputs::edge_halls;
 use crate::compare::tables::{
     any_length, codes, hall_codes, known_codes, light, light_hall, unknown_code, Table, KNOWN,
@@ -16,7 +17,7 @@ use crate::rattle;
 /// The random tables of a short comparison of each of the two calls.
 pub const TABLES: u32 = 60_000;
 /// The hall whose table is tried with every code in every place.
-const TRIED: Hall = Hall { n: 4, k: 1, b: 0 };
+const TRIED: Hall = Hall::full(4, 1, 0);
 /// A table has fewer unknown codes than this, unless it is of any bytes.
 const UNKNOWN: u32 = 4;
 
@@ -83,7 +84,7 @@ impl Checked {
 
     /// Tables of every hall and of some that are none, and one table with every code in every place.
     pub fn edges() -> impl Iterator<Item = Checked> {
-        let tables = edge_halls().filter(|&h| light(h) || h.b == 0);
+        let tables = edge_halls().filter(|&h| light(h) || h.b == 0 && is_full(h));
         let tables = tables.flat_map(edge_tables);
         let places =
             (0..hall_codes(TRIED)).flat_map(|place| (0..=u8::MAX).map(move |c| (place, c)));

@@ -8,6 +8,7 @@ use super::sheet::SHEETS;
 use super::sheet_codes::MOST_CODES;
 use crate::compare::call::Call;
 use crate::compare::cases::Case;
+use crate::compare::events::{Event, Met, PART_SHEET};
 use crate::compare::room::{told, Room};
 use crate::compare::sheets::{
     any_sheet, counted_sheets, edge_sheets, largest, Sheet, LARGEST_HALL,
@@ -23,6 +24,7 @@ impl Call for CodesPart {
 
     const NAME: &'static str = "codes part";
     const NUMBERS: &'static [u32] = &[NONE, ROOM];
+    const EVENTS: &'static [Event] = PART_SHEET;
     const INPUTS: u32 = SHEETS;
     const MEASURED: usize = 16;
 
@@ -32,6 +34,12 @@ impl Call for CodesPart {
 
     fn edges() -> impl Iterator<Item = Sheet> {
         edge_sheets().chain(counted_sheets())
+    }
+
+    fn count(input: &Sheet, number: u32, _: &Room<u8>, met: &mut Met) {
+        if number == NONE {
+            met.add_part_sheet(input);
+        }
     }
 
     fn rooms(input: &Sheet, random: &mut Random) -> Room<u8> {

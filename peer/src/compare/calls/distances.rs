@@ -1,12 +1,14 @@
 //! The distances from a server to all of its DCell(b).
 
-use peer::hall::Hall;
+use peer::hall::{cell, Hall};
 use peer::local::{self, CELL_ROOM};
 use peer::random::Random;
 use peer::refusal::{HALL, LENGTH, NONE, ROOM, UID};
 
 use crate::compare::call::Call;
 use crate::compare::cases::{by_b_and_share, Case};
+use crate::compare::counts::fitted_server;
+use crate::compare::events::{Event, Met, OWN_SERVER};
 use crate::compare::inputs::{any_hall, any_uid, edge_halls, servers, sizes};
 use crate::compare::room::{told, Room};
 use crate::compare::tables::{any_codes, any_length, cell_codes, codes};
@@ -37,6 +39,7 @@ impl Call for Distances {
 
     const NAME: &'static str = "distances";
     const NUMBERS: &'static [u32] = &[NONE, HALL, LENGTH, UID, ROOM];
+    const EVENTS: &'static [Event] = OWN_SERVER;
     const INPUTS: u32 = SEARCHES;
     const MEASURED: usize = MEASURED;
 
@@ -46,6 +49,14 @@ impl Call for Distances {
 
     fn edges() -> impl Iterator<Item = Local> {
         Local::edges()
+    }
+
+    fn count(at: &Local, number: u32, _: &Room<u8>, met: &mut Met) {
+        if number == NONE {
+            at.count(met, |hall, codes| {
+                local::distances(hall, at.uid, codes).distance
+            });
+        }
     }
 
     fn rooms(_: &Local, random: &mut Random) -> Room<u8> {
@@ -92,6 +103,15 @@ impl Local {
         })
     }
 
+    /// Counts whose server shuts a port that decides an answer on sound input.
+    pub fn count<A: PartialEq>(&self, met: &mut Met, answer: impl Fn(Hall, &[u8]) -> A) {
+        let first = cell(self.hall, self.uid, self.hall.b).first;
+        let own = answer(self.hall, &self.codes);
+        met.add_fitted(self.hall, self.uid, first, &self.codes, |hall, codes| {
+            own != answer(hall, codes)
+        });
+    }
+
     /// A target for a server: mostly in its own cell, else any.
     fn with_target(random: &mut Random, hall: Hall, uid: u32, codes: Vec<u8>) -> Local {
         let cell = sizes(hall).map(|t| t[hall.b as usize]);
@@ -112,7 +132,7 @@ impl Local {
     /// A server and a target of one cell of a sound hall, with so many in a hundred codes not up.
     pub fn sound(random: &mut Random, hall: Hall, not_up: u32) -> Local {
         let cell = sizes(hall).map_or(1, |t| t[hall.b as usize]);
-        let uid = random.below(servers(hall).unwrap_or(1));
+        let uid = fitted_server(random, hall).unwrap_or(0);
         Local {
             hall,
             uid,

@@ -117,7 +117,7 @@ fn tried(length: usize, place: usize, code: u8, k: u32) -> Input {
     }
     let ports = u64::from(k) + 1;
     Input {
-        hall: Hall { n: 4, k, b: 0 },
+        hall: Hall::full(4, k, 0),
         table: Table::Own(codes),
         server: (place as u64 / ports) as u32,
         port: (place as u64 % ports) as u32,

@@ -5,7 +5,7 @@ use peer::random::Random;
 use peer::refusal::{HALL, LENGTH, NONE, RETRY, ROOM, UID};
 
 use crate::compare::call::Call;
-use crate::compare::cases::{by_b_and_share, Case};
+use crate::compare::cases::{by_b_and_share, halves_by_b_and_share, Case};
 use crate::compare::events::{self, Event, Met};
 use crate::compare::packets::{any_far, sound_far, Far};
 use crate::compare::room::{told, Room};
@@ -51,7 +51,8 @@ impl Call for Journey {
     }
 
     fn cases() -> Vec<Case<Far>> {
-        by_b_and_share(sound_far)
+        let full = by_b_and_share(sound_far).into_iter();
+        full.chain(halves_by_b_and_share(sound_far)).collect()
     }
 
     fn ample_rooms() -> Room<u32> {

@@ -7,10 +7,13 @@ use peer::{report, sheet};
 use super::sheet::SHEETS;
 use super::sheet_packet::Picked;
 use crate::compare::call::Call;
-use crate::compare::events::{Event, Met};
+use crate::compare::events::{Event, Met, PART_SHEET};
 use crate::compare::sheets::alone;
 use crate::compare::texts::{LineRooms, Spot, FITS};
 use crate::rattle;
+
+/// What a comparison has to meet: what every call that writes a line has to, and a packet of a hall that is not full.
+const MET: &[Event] = &[FITS[0], FITS[1], FITS[2], PART_SHEET[0]];
 
 /// The call `calls_journey_line`.
 pub struct JourneyLine;
@@ -28,7 +31,7 @@ impl Call for JourneyLine {
 
     const NAME: &'static str = "journey line";
     const NUMBERS: &'static [u32] = &[NONE, HALL, UID, RANGE, LENGTH, CODE, ROOM, RETRY, SHEET];
-    const EVENTS: &'static [Event] = FITS;
+    const EVENTS: &'static [Event] = MET;
     const INPUTS: u32 = SHEETS;
 
     fn any(random: &mut Random) -> Input {
@@ -44,8 +47,11 @@ impl Call for JourneyLine {
         inputs.map(|(picked, spot)| Input { picked, spot })
     }
 
-    fn count(_: &Input, number: u32, rooms: &LineRooms, met: &mut Met) {
+    fn count(input: &Input, number: u32, rooms: &LineRooms, met: &mut Met) {
         rooms.count(number, met);
+        if number == NONE {
+            met.add_part_sheet(&input.picked.sheet);
+        }
     }
 
     fn rooms(input: &Input, random: &mut Random) -> LineRooms {

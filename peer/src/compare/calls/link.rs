@@ -118,7 +118,7 @@ mod tests {
 
     #[test]
     fn the_edges_of_a_level_of_few_sub_cells_are_all_pairs_and_some_beyond() {
-        let hall = Hall { n: 4, k: 2, b: 0 };
+        let hall = Hall::full(4, 2, 0);
         let at = |level| Place {
             hall,
             uid: 0,

@@ -17,8 +17,10 @@ mod end_line;
 mod first_link;
 mod first_unknown;
 mod fits;
+mod fitted_servers;
 mod hall_line;
 mod header_place;
+mod is_fitted;
 mod is_known;
 mod is_up;
 mod journey;
@@ -29,6 +31,7 @@ mod n_fits;
 mod neighbour;
 mod next_hop;
 mod next_identification;
+mod next_prefix;
 mod opening_line;
 mod packet_fields;
 mod packet_line;
@@ -36,6 +39,7 @@ mod part;
 mod payload;
 mod program;
 mod put;
+mod racks;
 mod read_header;
 mod refused_line;
 mod route;
@@ -56,6 +60,9 @@ mod tuple;
 mod uid;
 mod word_at;
 mod write_header;
+
+pub use journey::Journey;
+pub use step::Step;
 
 use super::bench;
 use super::call::Call;
@@ -85,6 +92,10 @@ pub const CALLS: &[Listed] = &[
     listed::<fits::Fits<true>>(),
     listed::<servers::Servers>(),
     listed::<size_of::SizeOf>(),
+    listed::<racks::Racks>(),
+    listed::<next_prefix::NextPrefix>(),
+    listed::<is_fitted::IsFitted>(),
+    listed::<fitted_servers::FittedServers>(),
     listed::<route::Route>(),
     listed::<route_links::RouteLinks>(),
     listed::<driver_route::DriverRoute>(),

@@ -8,6 +8,7 @@ use super::distances::{Local, MEASURED, SEARCHES};
 use super::HALL_ROOM;
 use crate::compare::call::Call;
 use crate::compare::cases::{by_b_and_share, Case};
+use crate::compare::events::{Event, Met, OWN_SERVER};
 use crate::compare::room::{told, Room};
 use crate::rattle;
 
@@ -23,6 +24,7 @@ impl Call for NextHop {
 
     const NAME: &'static str = "next hop";
     const NUMBERS: &'static [u32] = &[NONE, HALL, LENGTH, UID, ROOM];
+    const EVENTS: &'static [Event] = OWN_SERVER;
     const INPUTS: u32 = SEARCHES;
     const MEASURED: usize = MEASURED;
 
@@ -32,6 +34,14 @@ impl Call for NextHop {
 
     fn edges() -> impl Iterator<Item = Local> {
         Local::edges()
+    }
+
+    fn count(at: &Local, number: u32, _: &Room<u32>, met: &mut Met) {
+        if number == NONE {
+            at.count(met, |hall, codes| {
+                local::next_hop(hall, at.uid, at.target, codes)
+            });
+        }
     }
 
     fn rooms(_: &Local, random: &mut Random) -> Room<u32> {

@@ -8,6 +8,7 @@ use super::sheet::SHEETS;
 use super::sheet_packet::Picked;
 use crate::compare::call::Call;
 use crate::compare::cases::Case;
+use crate::compare::events::{Event, Met, PART_SHEET};
 use crate::compare::inputs::within;
 use crate::compare::numbers::any_number;
 use crate::compare::room::{told, Room};
@@ -30,6 +31,7 @@ impl Call for PacketFields {
 
     const NAME: &'static str = "packet fields";
     const NUMBERS: &'static [u32] = &[NONE, RANGE, ROOM];
+    const EVENTS: &'static [Event] = PART_SHEET;
     const INPUTS: u32 = SHEETS;
     const MEASURED: usize = 16;
 
@@ -52,6 +54,12 @@ impl Call for PacketFields {
             INDICES.map(with_index)
         });
         Picked::edges().chain(short)
+    }
+
+    fn count(input: &Picked, number: u32, _: &Room<u32>, met: &mut Met) {
+        if number == NONE {
+            met.add_part_sheet(&input.sheet);
+        }
     }
 
     fn rooms(_: &Picked, random: &mut Random) -> Room<u32> {

@@ -6,6 +6,7 @@ use peer::sheet;
 
 use crate::compare::call::Call;
 use crate::compare::cases::{by_b_and_share, Case};
+use crate::compare::events::{Event, Met, SECTIONS};
 use crate::compare::room::{told, Room};
 use crate::compare::sheets::{any_sheet, edge_sheets, largest, Sheet as Bytes};
 use crate::rattle;
@@ -14,8 +15,8 @@ use crate::rattle;
 pub const SHEETS: u32 = 60_000;
 /// The highest k of the halls that are measured: with k = 3 the codes alone are more than a sheet may have.
 const MOST_LEVEL: u32 = 2;
-/// The values of the answer: n, k, b and the packets.
-const VALUES: usize = 4;
+/// The values of the answer: n, k, b, the count of DCell(1)s fitted, and the packets.
+pub const VALUES: usize = 5;
 
 /// The call `calls_sheet`.
 pub struct Sheet;
@@ -26,6 +27,7 @@ impl Call for Sheet {
 
     const NAME: &'static str = "sheet";
     const NUMBERS: &'static [u32] = &[NONE, HALL, UID, LENGTH, CODE, ROOM, RETRY, SHEET];
+    const EVENTS: &'static [Event] = SECTIONS;
     const INPUTS: u32 = SHEETS;
     const MEASURED: usize = 1;
 
@@ -35,6 +37,10 @@ impl Call for Sheet {
 
     fn edges() -> impl Iterator<Item = Bytes> {
         edge_sheets()
+    }
+
+    fn count(input: &Bytes, _: u32, _: &Room<u32>, met: &mut Met) {
+        met.add_section(input);
     }
 
     fn rooms(_: &Bytes, random: &mut Random) -> Room<u32> {
@@ -55,7 +61,7 @@ impl Call for Sheet {
 
     fn peer(input: &Bytes, room: &mut Room<u32>) -> u32 {
         let answer = sheet::read(input);
-        let values = [answer.n, answer.k, answer.b, answer.packets];
+        let values = [answer.n, answer.k, answer.b, answer.count, answer.packets];
         told(answer.refusal, &values, room.lent())
     }
 }

@@ -6,6 +6,7 @@ use peer::sheet;
 
 use super::sheet::SHEETS;
 use crate::compare::call::Call;
+use crate::compare::events::{Event, Met, PART_SHEET};
 use crate::compare::room::{told, Room};
 use crate::compare::sheets::{any_sheet, edge_sheets, Sheet};
 use crate::rattle;
@@ -22,6 +23,7 @@ impl Call for SheetCodes {
 
     const NAME: &'static str = "sheet codes";
     const NUMBERS: &'static [u32] = &[NONE, HALL, UID, LENGTH, CODE, ROOM, RETRY, SHEET];
+    const EVENTS: &'static [Event] = PART_SHEET;
     const INPUTS: u32 = SHEETS;
 
     fn any(random: &mut Random) -> Sheet {
@@ -30,6 +32,12 @@ impl Call for SheetCodes {
 
     fn edges() -> impl Iterator<Item = Sheet> {
         edge_sheets()
+    }
+
+    fn count(input: &Sheet, number: u32, _: &Room<u8>, met: &mut Met) {
+        if number == NONE {
+            met.add_part_sheet(input);
+        }
     }
 
     fn rooms(input: &Sheet, random: &mut Random) -> Room<u8> {

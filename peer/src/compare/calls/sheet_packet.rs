@@ -6,6 +6,7 @@ use peer::sheet;
 
 use super::sheet::SHEETS;
 use crate::compare::call::Call;
+use crate::compare::events::{Event, Met, PART_SHEET};
 use crate::compare::inputs::around;
 use crate::compare::room::{told, Room};
 use crate::compare::sheets::{any_sheet, edge_sheets, Sheet};
@@ -31,6 +32,7 @@ impl Call for SheetPacket {
 
     const NAME: &'static str = "packet";
     const NUMBERS: &'static [u32] = &[NONE, HALL, UID, RANGE, LENGTH, CODE, ROOM, RETRY, SHEET];
+    const EVENTS: &'static [Event] = PART_SHEET;
     const INPUTS: u32 = SHEETS;
 
     fn any(random: &mut Random) -> Picked {
@@ -39,6 +41,12 @@ impl Call for SheetPacket {
 
     fn edges() -> impl Iterator<Item = Picked> {
         Picked::edges()
+    }
+
+    fn count(input: &Picked, number: u32, _: &Room<u32>, met: &mut Met) {
+        if number == NONE {
+            met.add_part_sheet(&input.sheet);
+        }
     }
 
     fn rooms(_: &Picked, random: &mut Random) -> Room<u32> {

@@ -5,6 +5,7 @@ use peer::sheet;
 
 use super::sheet::SHEETS;
 use crate::compare::call::Value;
+use crate::compare::events::{Event, Met, SECTIONS};
 use crate::compare::sheets::{any_sheet, edge_sheets, Sheet};
 use crate::rattle;
 
@@ -16,6 +17,7 @@ impl Value for SheetPlace {
     type Told = u32;
 
     const NAME: &'static str = "sheet place";
+    const EVENTS: &'static [Event] = SECTIONS;
     const INPUTS: u32 = SHEETS;
 
     fn any(random: &mut Random) -> Sheet {
@@ -24,6 +26,10 @@ impl Value for SheetPlace {
 
     fn edges() -> impl Iterator<Item = Sheet> {
         edge_sheets()
+    }
+
+    fn count(input: &Sheet, met: &mut Met) {
+        met.add_section(input);
     }
 
     fn rattle(input: &Sheet) -> u32 {

@@ -6,7 +6,7 @@ use peer::refusal::{HALL, LENGTH, NONE, RETRY, ROOM, UID};
 use peer::route::WORD;
 
 use crate::compare::call::Call;
-use crate::compare::cases::{by_b_and_share, Case};
+use crate::compare::cases::{by_b_and_share, halves_by_b_and_share, Case};
 use crate::compare::events::{self, Event, Met};
 use crate::compare::packets::{any_near, sound_near, words_of, Near};
 use crate::compare::room::{told, Room};
@@ -46,7 +46,8 @@ impl Call for Step {
     }
 
     fn cases() -> Vec<Case<Near>> {
-        by_b_and_share(sound_near)
+        let full = by_b_and_share(sound_near).into_iter();
+        full.chain(halves_by_b_and_share(sound_near)).collect()
     }
 
     fn ample_rooms() -> Room<u8> {

@@ -11,12 +11,25 @@ use crate::compare::cases::{by_b, Case};
 use crate::compare::events::{Event, Met};
 use crate::compare::inputs::{any_hall, any_uid, edge_servers};
 use crate::compare::room::Room;
-use crate::compare::tables::{any_byte_table, step_codes};
+use crate::compare::tables::{any_byte_table, lent_to_step, step_codes};
 use crate::compare::texts::FITS;
 use crate::rattle;
 
 /// The most codes of a step's table: 72 servers with four ports and two far ones.
 const MOST_CODES: usize = 432;
+
+/// Whose server shuts a port is looked for in hall tables of at most so many codes.
+const LOOKED_AT: usize = 8_000;
+
+/// What a comparison has to meet: a room that is a byte too short, the exact one and one byte more, and a port that is shut for its own
+/// server, or for its far one.
+const MET: &[Event] = &[
+    FITS[0],
+    FITS[1],
+    FITS[2],
+    Event::OwnServer,
+    Event::FarServer,
+];
 
 /// The call `tbexlum_step_table`.
 pub struct StepTable;
@@ -27,7 +40,7 @@ impl Call for StepTable {
 
     const NAME: &'static str = "step table";
     const NUMBERS: &'static [u32] = &[NONE, HALL, LENGTH, UID, ROOM];
-    const EVENTS: &'static [Event] = FITS;
+    const EVENTS: &'static [Event] = MET;
     const INPUTS: u32 = 60_000;
     const MEASURED: usize = 64;
 
@@ -46,6 +59,12 @@ impl Call for StepTable {
         let spare = room.length().checked_signed_diff(step_codes(input.hall));
         if let (NONE | ROOM, Some(bytes @ -1..=1)) = (number, spare) {
             met.add(Event::Spare { number, bytes });
+        }
+        if number == NONE && input.table.len() <= LOOKED_AT {
+            let own = lent_to_step(input.hall, &input.table, input.uid);
+            met.add_fitted(input.hall, input.uid, 0, &input.table, |hall, table| {
+                own != lent_to_step(hall, table, input.uid)
+            });
         }
     }
 
@@ -83,6 +102,6 @@ mod tests {
 
     #[test]
     fn the_ample_room_is_that_of_the_largest_table() {
-        assert_eq!(step_codes(Hall { n: 8, k: 3, b: 1 }), MOST_CODES);
+        assert_eq!(step_codes(Hall::full(8, 3, 1)), MOST_CODES);
     }
 }

@@ -121,14 +121,14 @@ mod tests {
 
     #[test]
     fn the_limits_of_a_hall_are_n_and_its_sub_cells_and_1_above_the_top() {
-        assert_eq!(limits(Hall { n: 4, k: 1, b: 0 }), [4, 5, 1, 1]);
-        assert_eq!(limits(Hall { n: 8, k: 3, b: 1 }), [8, 9, 73, 5_257]);
-        assert_eq!(limits(Hall { n: 9, k: 1, b: 0 }), [1; 4]);
+        assert_eq!(limits(Hall::full(4, 1, 0)), [4, 5, 1, 1]);
+        assert_eq!(limits(Hall::full(8, 3, 1)), [8, 9, 73, 5_257]);
+        assert_eq!(limits(Hall::full(9, 1, 0)), [1; 4]);
     }
 
     #[test]
     fn the_edges_of_a_small_hall_hold_each_of_its_tuples_once() {
-        let h = Hall { n: 2, k: 2, b: 0 };
+        let h = Hall::full(2, 2, 0);
         let sound = edge_tuples(h).into_iter();
         let sound = sound.filter(|&tuple| hall::uid_of(h, tuple).refusal == NONE);
         assert_eq!(sound.count(), 42);

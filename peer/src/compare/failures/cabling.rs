@@ -87,7 +87,7 @@ mod tests {
 
     #[test]
     fn the_cabling_is_that_of_the_rules() {
-        let hall = Hall { n: 3, k: 2, b: 1 };
+        let hall = Hall::full(3, 2, 1);
         let cabling = Cabling::of(hall);
         assert_eq!((cabling.servers, cabling.rack), (156, 12));
         for uid in 0..156 {
@@ -103,7 +103,7 @@ mod tests {
 
     #[test]
     fn a_server_has_a_cable_to_its_switch_and_half_of_one_at_each_level_above() {
-        let cabling = Cabling::of(Hall { n: 4, k: 3, b: 1 });
+        let cabling = Cabling::of(Hall::full(4, 3, 1));
         let cables = cabling.cables();
         let of_level = |level| cables.iter().filter(|cable| cable.1 == level).count();
         assert_eq!(

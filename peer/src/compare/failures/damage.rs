@@ -113,7 +113,7 @@ mod tests {
     use peer::hall::Hall;
 
     fn cabling() -> Cabling {
-        Cabling::of(Hall { n: 4, k: 2, b: 1 })
+        Cabling::of(Hall::full(4, 2, 1))
     }
 
     /// Whether the port of a server is up.

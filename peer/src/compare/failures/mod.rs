@@ -32,7 +32,7 @@ struct Plan {
 
 /// The hall of the paper's Table 2, with its local level, its shares and as many tables as it had runs.
 const PLAN: Plan = Plan {
-    hall: Hall { n: 4, k: 3, b: 1 },
+    hall: Hall::full(4, 3, 1),
     shares: &[2, 4, 6, 8, 10, 12, 14, 16, 18, 20],
     tables: 20,
     packets: 100_000,
@@ -40,7 +40,7 @@ const PLAN: Plan = Plan {
 };
 /// The hall of the paper's Figure 9, all of it deployed.
 const LARGER: Plan = Plan {
-    hall: Hall { n: 6, k: 3, b: 1 },
+    hall: Hall::full(6, 3, 1),
     shares: &[5],
     tables: 4,
     packets: 100_000,
@@ -192,7 +192,7 @@ fn printed(h: Hall, kind: Kind, percent: u32) -> Option<[f64; 2]> {
 
 /// Prints what the lines below are of, and the names of the columns.
 fn head(plan: &Plan, name: &str, columns: &[&str]) {
-    let Hall { n, k, b } = plan.hall;
+    let Hall { n, k, b, .. } = plan.hall;
     let (tables, packets) = (plan.tables, plan.packets);
     println!("\n{name}, n={n} k={k} b={b}, a line: {tables} tables, {packets} packets\n");
     println!("| {} |", columns.join(" | "));
@@ -244,7 +244,7 @@ mod tests {
     #[test]
     fn a_line_has_a_value_for_each_column() {
         let mut traces = Traces::default();
-        let cabling = Cabling::of(Hall { n: 4, k: 2, b: 1 });
+        let cabling = Cabling::of(Hall::full(4, 2, 1));
         let mut random = Random::new(1);
         let damage = damage(&cabling, Kind::Links, 10, &mut random);
         traces.add(&cabling, &Draw::over(damage, 100, 1, &mut random));
@@ -264,7 +264,7 @@ mod tests {
 
     /// A plan of few draws.
     const SMALL: Plan = Plan {
-        hall: Hall { n: 2, k: 3, b: 1 },
+        hall: Hall::full(2, 3, 1),
         shares: &[2, 20],
         tables: 3,
         packets: 60,

@@ -88,7 +88,7 @@ mod tests {
     use peer::random::Random;
 
     /// A hall with a scope that holds all of it, so that a broadcast's rounds are distances.
-    const HALL: Hall = Hall { n: 4, k: 2, b: 1 };
+    const HALL: Hall = Hall::full(4, 2, 1);
 
     #[test]
     fn distances_are_the_rounds_of_a_broadcast() {

@@ -126,7 +126,7 @@ mod tests {
     use peer::random::Random;
 
     fn cabling() -> Cabling {
-        Cabling::of(Hall { n: 4, k: 2, b: 1 })
+        Cabling::of(Hall::full(4, 2, 1))
     }
 
     /// A draw of 5,000 packets around broken strands.

@@ -214,7 +214,7 @@ mod tests {
     use peer::random::Random;
 
     fn cabling() -> Cabling {
-        Cabling::of(Hall { n: 4, k: 2, b: 1 })
+        Cabling::of(Hall::full(4, 2, 1))
     }
 
     /// The traces of so many packets after failures.

@@ -19,7 +19,7 @@ over-switches-requires c κs =
     let a = c .before .before .before .before .args in
     let k = c .before .before .before .before .pre in
     let d = div-mul-le-self (a .size) (a .h .n) in
-    (omega (arith, k .n-low), omega (arith, k .inside), omega (arith, scope-fits (a .h) (a .scope) (a .size) (a .r) (a .room .now) k), k .small)
+    (omega (arith, k .n-low), omega (arith, k .most, k .inside), omega (arith, scope-fits (a .h) (a .scope) (a .size) (a .r) (a .room .now) k), k .small)
 
 over-levels-requires : tie.Need-over-levels-requires
 over-levels-requires c κs =

@@ -13,7 +13,7 @@ use Rattle.ports.specs.Links.{bothUp}
 use Rattle.broadcast.specs.Sweeps.{Sweep, reachedBy, overLink, onLinks, fresh, placeAt}
 use Rattle.broadcast.proofs.Marks.{below, sweep-none, sweep-skip, sweep-store, fresh-now}
 use Rattle.broadcast.proofs.Grid.{place-start, place-next}
-use Rattle.broadcast.proofs.Reaches.{links-start, link-here, reads-same, scope-fits, cell-fits, neighbour-within, place-fits, near-is}
+use Rattle.broadcast.proofs.Reaches.{links-start, link-here, reads-same, scope-fits, cell-fits, size-inside, neighbour-inside, place-fits, near-is}
 use Rattle.broadcast.proofs.sweeps.over_links.Statement.{statement}
 use Rattle.broadcast.proofs.sweeps.over_links.Tie as tie
 
@@ -53,8 +53,8 @@ is-reached-requires c κs =
     let k = c .before .before .before .before .before .before .pre in
     let w = c .before .before .before .loop in
     let y = near-is (a .h .n) (a .j) (a .cell) (w .x) (c .neighbour-at .result) (w .p) (k .cell-is) (w .inv .2) (c .neighbour-at .ensures) in
-    let b = neighbour-within (a .h) (k .scope) (a .size) (a .r) (a .room .now) (k .fits) (a .j) (w .x) (k .below) (c .before .before .loop-test .taken) in
-    (omega (arith, k .fits .inside), omega (arith, k .fits .inside, y, b))
+    let b = neighbour-inside (a .h) (k .scope) (a .size) (a .r) (a .room .now) (k .fits) (a .j) (w .x) (k .below) (c .before .before .loop-test .taken) in
+    (omega (arith, size-inside (a .h) (k .scope) (a .size) (a .r) (a .room .now) (k .fits)), omega (arith, y, b))
 
 cast-at : tie.Need-cast-at Inv-loop μ-loop
 cast-at c = search needs
@@ -66,7 +66,7 @@ mul-room : tie.Need-mul-room Inv-loop μ-loop
 mul-room c = search needs
 
 slice-write-room : tie.Need-slice-write-room Inv-loop μ-loop
-slice-write-room c = let k = c .before .before .before .before .before .before .before .before .pre in omega (arith, k .fits .inside)
+slice-write-room c = let k = c .before .before .before .before .before .before .before .before .pre in omega (arith, k .fits .most, k .fits .inside)
 
 next-place-requires : tie.Need-next-place-requires Inv-loop μ-loop
 next-place-requires c κs =

@@ -1,0 +1,1 @@
+-- The laws stand in the crates that are called.

@@ -1,0 +1,14 @@
+-- The laws.
+pub mod Index
+pub mod Place
+pub mod Run
+pub mod Adding
+pub mod Servers
+pub mod Sizes
+pub mod First
+pub mod Asks
+pub mod Filled
+pub mod Halls
+pub mod Front
+pub mod Words
+pub mod Planned
