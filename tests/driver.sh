@@ -196,6 +196,10 @@ pass
 
 warnings=(-Wall -Wextra -Wpedantic -Wconversion -Wsign-conversion -Wshadow -Wundef -Wunused -Wcast-qual -Wswitch-default -Werror)
 sanitizers=("-fsanitize=address,undefined" -fno-sanitize-recover=all)
+if [ "$(uname -m)" != x86_64 ]; then
+    echo "== the address sanitizer is not tried: it does not run under the emulator of x86-64"
+    sanitizers=(-fsanitize=undefined -fno-sanitize-recover=all)
+fi
 
 # Builds a source with what is installed, and nothing else of this tree.
 build() { # COMPILER SOURCE PROGRAM FLAG..
