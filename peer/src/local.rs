@@ -388,6 +388,20 @@ mod tests {
         }
     }
 
+    /// Asserts that the distances from a server and its next hop are those of relaxing every link of its cell, by the codes as they count.
+    fn assert_relaxed(h: Hall, table: &[u8], counted: &[u8], uid: u32, target: u32) {
+        let first = uid - uid % naive::size(h.n, h.b);
+        let literal = naive::distances(h, first, counted, uid, h.b);
+        let answer = distances(h, uid, table);
+        for (place, &distance) in answer.distance.iter().enumerate() {
+            let away = literal.get(place).copied().unwrap_or(naive::NEVER);
+            assert_eq!(u32::from(distance), away.min(255));
+        }
+        let hop = next_hop(h, uid, target, table);
+        let expected = naive::next_hop(h, first, counted, uid, target);
+        assert_eq!((hop.found == 1).then_some(hop.uid), expected);
+    }
+
     #[test]
     fn distances_and_hops_of_halls_that_are_not_full_are_those_of_the_codes_that_count() {
         let mut random = Random::new(73);
@@ -397,17 +411,8 @@ mod tests {
                 let table = naive::table(&mut random, (t * (h.k + 1)) as usize, 5);
                 let first = random.below(naive::servers(h) / t) * t;
                 let counted = naive::counted_cell(h, &table, first);
-                let uid = first + random.below(t);
-                let literal = naive::distances(h, first, &counted, uid, h.b);
-                let answer = distances(h, uid, &table);
-                for (place, &distance) in answer.distance.iter().enumerate() {
-                    let away = literal.get(place).copied().unwrap_or(naive::NEVER);
-                    assert_eq!(u32::from(distance), away.min(255));
-                }
-                let target = first + random.below(t);
-                let hop = next_hop(h, uid, target, &table);
-                let expected = naive::next_hop(h, first, &counted, uid, target);
-                assert_eq!((hop.found == 1).then_some(hop.uid), expected);
+                let (uid, target) = (first + random.below(t), first + random.below(t));
+                assert_relaxed(h, &table, &counted, uid, target);
             }
         }
     }
@@ -422,17 +427,8 @@ mod tests {
                 let table = naive::table(&mut random, length, faults);
                 let first = random.below(naive::servers(h) / t) * t;
                 for _ in 0..3 {
-                    let uid = first + random.below(t);
-                    let literal = naive::distances(h, first, &table, uid, h.b);
-                    let answer = distances(h, uid, &table);
-                    for (place, &distance) in answer.distance.iter().enumerate() {
-                        let away = literal.get(place).copied().unwrap_or(naive::NEVER);
-                        assert_eq!(u32::from(distance), away.min(255));
-                    }
-                    let target = first + random.below(t);
-                    let hop = next_hop(h, uid, target, &table);
-                    let expected = naive::next_hop(h, first, &table, uid, target);
-                    assert_eq!((hop.found == 1).then_some(hop.uid), expected);
+                    let (uid, target) = (first + random.below(t), first + random.below(t));
+                    assert_relaxed(h, &table, &table, uid, target);
                 }
             }
         }
