@@ -9,12 +9,12 @@ use native.Mathlib.Omega.{arith}
 use lib.Dec.{ltb}
 use lib.ListN.{length, getD, replicate, getD-replicate}
 use lib.Seq.{getD-append-add}
-use borrow.Author.Tests.{ltb-true, ltb-false, lt-ltb, le-ltb, le-leb, eq-eqb}
+use borrow.Author.Tests.{ltb-true, ltb-false, lt-ltb, le-ltb, le-leb}
 use Rattle.combine.specs.Tests.{both}
 use Rattle.combine.proofs.Tests.{cases}
 use Rattle.hall.specs.declared.Hall.{Hall}
 use Rattle.hall.specs.Cells.{t, cell}
-use Rattle.hall.specs.Halls.{capacity, valid, isFull, servers}
+use Rattle.hall.specs.Halls.{valid, isFull, servers}
 use Rattle.hall.specs.Answers.{racksOf}
 use Rattle.hall.proofs.Growth.{valid-known, valid-pos}
 use Rattle.ports.proofs.Parts.{t-whole}
@@ -23,7 +23,7 @@ use Rattle.search.proofs.Rounds.{length-marks}
 use Rattle.search.proofs.Distance.{distances-agree}
 use Rattle.search.proofs.Cut.{reached-alone, last-alone, distances-alone, distances-front}
 use Rattle.plan.specs.Answers.{fitted, isFitted, front, fittedServers}
-use Rattle.plan.proofs.Asks.{racks-valid}
+use Rattle.plan.proofs.Asks.{full-is, told-fitted}
 use Rattle.plan.proofs.Halls.{fitted-full}
 use Rattle.plan.proofs.Front.{front-servers, front-most}
 use Rattle.counted.specs.Counted.{counted}
@@ -153,7 +153,7 @@ rounds-behind h table source s count o y l b =
 
 module _ (h : Hall) (source s size : ℕ) (k : Scoped h source s size) where
   source-fitted : isFitted h source ≡ fitted h source
-  source-fitted = rw (k .sound, lt-ltb source (servers h) (k .below))
+  source-fitted = told-fitted h source (k .sound) (k .below)
 
   -- a scope that is not below 2 is 2
   high : 2 ≤ s → s ≡ 2
@@ -161,9 +161,9 @@ module _ (h : Hall) (source s size : ℕ) (k : Scoped h source s size) where
 
   -- what the code tests
   pub places-full : (c : ℕ) → c ≡ racksOf (h .n) (h .k) → h .count ≡ c → size ≡ fittedPlaces h source s
-  unfolding isFull fittedPlaces
+  unfolding fittedPlaces
   places-full c e m =
-      let full : isFull h ≡ true = eq-eqb (h .count) (capacity (h .n) (h .k)) (m ∙ racks-valid h c (k .sound) e) in
+      let full : isFull h ≡ true = full-is h c (k .sound) e m in
       k .size-is
       ∙ rw (fitted-full h source full)
       (cases (ltb s 2)

@@ -39,6 +39,20 @@ pub both-false : (a b : Bool) → b ≡ false → both a b ≡ false
 both-false true b q = q
 both-false false b q = refl
 
+pub both-alone : (a : Bool) → both a true ≡ a
+both-alone true = refl
+both-alone false = refl
+
+pub both-swap : (a b : Bool) → both a b ≡ both b a
+both-swap true true = refl
+both-swap true false = refl
+both-swap false true = refl
+both-swap false false = refl
+
+pub both-joined : (a b c : Bool) → both a (both b c) ≡ both (both a b) c
+both-joined true b c = refl
+both-joined false b c = refl
+
 pub either-false : (b : Bool) → either b false ≡ b
 either-false true = refl
 either-false false = refl

@@ -132,30 +132,28 @@ module _ (h : Hall) where
       byte : eqb (countedAt h first a i) code-up ≡ eqb (countedAt h first b i) code-up
       byte = cases (portFitted h (first + i / (h .k + 1)) (i % (h .k + 1))) (λ e. rw e (s i)) (λ e. rw e)
 
+  -- a port of level 0 or 1 leads to no other DCell1, so it counts where its server is fitted
+  pub port-near : 0 < h .n → (u port : ℕ) → port < 2 → fitted h u ≡ true → portFitted h u port ≡ true
+  unfolding portFitted farFitted
+  port-near pos u zero l e = rw e
+  port-near pos u (suc zero) l e = rw (← fitted-same h u (neighbour (h .n) 0 u) (neighbour-stays (h .n) pos 0 u), e)
+  port-near pos u (suc (suc j)) l e = absurd (omega arith)
+
   -- A DCELL(b) IS FITTED AS A WHOLE, b being at most 1
   module _ (pos : 0 < h .n) (i u : ℕ) (low : i ≤ 1) where
-    cell-same : (x : ℕ) → x < t (h .n) i → same (h .n) 1 u (cell (h .n) i u * t (h .n) i + x) ≡ true
+    pub cell-same : (x : ℕ) → x < t (h .n) i → same (h .n) 1 u (cell (h .n) i u * t (h .n) i + x) ≡ true
     cell-same x b = same-mono (h .n) {i = i} {j = 1} u (cell (h .n) i u * t (h .n) i + x) low (eq-same (h .n) i u (cell (h .n) i u * t (h .n) i + x) (sym (unfold cell in (digits-div (u / t (h .n) i) b))))
 
     pub cell-fitted : (x : ℕ) → x < t (h .n) i → fitted h (cell (h .n) i u * t (h .n) i + x) ≡ fitted h u
     cell-fitted x b = sym (fitted-same h u (cell (h .n) i u * t (h .n) i + x) (cell-same x b))
 
-    -- a port of level at most 1 leads nowhere else
-    local-far : (v port : ℕ) → port ≤ 1 → fitted h v ≡ true → farFitted h v port ≡ true
-    unfolding farFitted
-    local-far v zero l e = refl
-    local-far v (suc zero) l e = sym (fitted-same h v (neighbour (h .n) 0 v) (neighbour-stays (h .n) pos 0 v)) ∙ e
-    local-far v (suc (suc j)) l e = absurd (omega arith)
-
     module _ (table : List ℕ) where
       -- for a fitted server the codes of its cell of level up to 1 are as they stand
       pub counted-local : fitted h u ≡ true → (x port : ℕ) → x < t (h .n) i → port ≤ 1
           → codeOf h (counted h (cell (h .n) i u * t (h .n) i) table) x port ≡ codeOf h table x port
-      unfolding portFitted
       counted-local e x port b l =
           let v : ℕ = cell (h .n) i u * t (h .n) i + x in
-          let f : fitted h v ≡ true = cell-fitted x b ∙ e in
-          counted-code (cell (h .n) i u * t (h .n) i) table x port ∙ rw (f, local-far v port l f)
+          counted-code (cell (h .n) i u * t (h .n) i) table x port ∙ rw (port-near pos v port (omega arith) (cell-fitted x b ∙ e))
 
       -- for one that is not fitted every code of its cell counts 0
       pub counted-none : fitted h u ≡ false → (x port : ℕ) → x < t (h .n) i

@@ -25,11 +25,10 @@ use Rattle.ports.specs.Codes.{not-fitted, cellLength, part}
 use Rattle.ports.proofs.Parts.{Sound}
 use Rattle.plan.specs.Answers.{fitted, isFitted}
 use Rattle.plan.proofs.Halls.{fitted-same}
-use Rattle.plan.proofs.Asks.{racks-valid}
+use Rattle.plan.proofs.Asks.{racks-valid, told-fitted}
 use Rattle.counted.specs.Counted.{farFitted, portFitted, countedAt, counted}
 use Rattle.counted.proofs.Counted.{cell-fitted, port-link, counted-code, counted-part}
 use Rattle.local.specs.Local.{cellSize, firstOf}
-use Rattle.local.proofs.Counting.{told-fitted}
 use Rattle.ends.specs.Tables.{levels, farCount, stepLength, farCode, farAt, stepTable}
 use Rattle.ends.specs.Filling.{runCode, runCounted, tableCounted}
 use Rattle.ends.proofs.Spread.{put-behind}

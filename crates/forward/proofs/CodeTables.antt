@@ -6,12 +6,12 @@ use Prim.Native.Nat.{ℕ, suc, _+_, _-_, _*_, _/_, _%_, _≤_, _<_}
 use native.Mathlib.Omega.{arith}
 use lib.Dec.{eqb}
 use lib.ListN.{length, getD, take, drop, length-take}
-use borrow.Author.Tests.{eq-eqb}
 use Rattle.combine.specs.Tests.{both}
+use Rattle.combine.proofs.Tests.{both-false, both-alone, both-joined}
 use Rattle.hall.specs.declared.Hall.{Hall}
 use Rattle.hall.specs.Cells.{cell, same, neighbour}
-use Rattle.hall.specs.Halls.{capacity, isFull, servers}
-use Rattle.hall.specs.Answers.{racksOf}
+use Rattle.hall.specs.Halls.{isFull, servers}
+use Rattle.hall.proofs.Cells.{same-trans, neighbour-stays}
 use Rattle.hall.proofs.Growth.{valid-known}
 use Rattle.hall.proofs.Links.{neighbour-in}
 use Rattle.ports.specs.Codes.{isUp, up, cellLength}
@@ -21,11 +21,10 @@ use Rattle.local.specs.Local.{cellSize, placeOf, firstOf, counting}
 use Rattle.local.proofs.Sizes.{place-fits}
 use Rattle.local.proofs.Uids.{uid-made, uid-within}
 use Rattle.plan.specs.Answers.{fitted, isFitted}
-use Rattle.plan.proofs.Halls.{fitted-full}
-use Rattle.plan.proofs.Asks.{racks-valid}
-use Rattle.local.proofs.Counting.{told-fitted}
+use Rattle.plan.proofs.Halls.{fitted-same, fitted-full}
+use Rattle.plan.proofs.Asks.{told-fitted}
 use Rattle.counted.specs.Counted.{counted}
-use Rattle.counted.proofs.Counted.{counted-length, counted-part, cell-fitted}
+use Rattle.counted.proofs.Counted.{counted-length, counted-part, cell-same, cell-fitted}
 use Rattle.counted.proofs.Links.{ups-counted}
 use Rattle.local.proofs.Asks.{bytes-are}
 use Rattle.ends.specs.Tables.{levels, farCount, stepLength, cellPart, farPlace, farIn}
@@ -174,10 +173,6 @@ module _ (h : Hall) (whole : Bool) (table : List ℕ) (level : ℕ) where
         ∙ whole-open me place a b w
 
 -- A LINK AS ITS CODES COUNT: BOTH ENDS UP, AND BOTH SERVERS FITTED
-both-first : (f a b : Bool) → both (both f a) b ≡ both f (both a b)
-both-first true a b = refl
-both-first false a b = refl
-
 module _ (h : Hall) (table : List ℕ) (me place level : ℕ) (p : Above h place level) where
   abbrev own-uid : ℕ
   own-uid = firstOf h me + place
@@ -193,7 +188,7 @@ module _ (h : Hall) (table : List ℕ) (me place level : ℕ) (p : Above h place
         lents.lent-near h me table (a .long) place level (p .inside) (p .low) (p .high) (valid-known h (p .sound)),
         lents.lent-far h me table (a .long) place level (p .inside) (p .low) (p .high),
       )
-      (both-first (both (fitted h me) (fitted h far-uid)) (up h table place level) (isUp (farIn h table place level)))
+      (sym (both-joined (both (fitted h me) (fitted h far-uid)) (up h table place level) (isUp (farIn h table place level))))
   usable-counts true a =
       let v = valid-known h (p .sound) in
       let e : suc (level - 1) ≡ level = omega (arith, p .low) in
@@ -203,64 +198,72 @@ module _ (h : Hall) (table : List ℕ) (me place level : ℕ) (p : Above h place
       ∙ c
       ∙ rw (cell-fitted h (omega (arith, v .n-low)) (h .b) me (v .b-high) place (p .inside), usable-hall h table me (known h table me a) level place (p .inside) (p .low) (p .high))
 
+-- a link of level 1 stays in a DCell1
+near-together : (h : Hall) → 0 < h .n → (u level : ℕ) → 0 < level → level < 2 → same (h .n) 1 u (neighbour (h .n) (level - 1) u) ≡ true
+near-together h pos u level low l =
+    let z : level - 1 ≡ 0 = omega arith in
+    rw z (neighbour-stays (h .n) pos 0 u)
+
 -- the servers of a link are of the hall
-pub crossed-servers : (h : Hall) (whole : Bool) (table : List ℕ) (u v level : ℕ) → Crossed h whole table u v level → Servers h u v
+pub crossed-servers : (h : Hall) (whole : Bool) (table : List ℕ) (u v level : ℕ) → Crossed h whole table u v level → Servers h level u v
 unfolding servers
 crossed-servers h whole table u v level a =
     let k = valid-known h (a .here .sound) in
+    let pos : 0 < h .n = omega (arith, k .n-low) in
     record {
       sound = a .here .sound;
       u-fits = a .here .fits;
-      v-fits = rw (a .leads) (neighbour-in (h .n) (omega (arith, k .n-low)) (level - 1) (h .k) u (omega (arith, a .low, a .high)) (a .here .fits));
+      v-fits = rw (a .leads) (neighbour-in (h .n) pos (level - 1) (h .k) u (omega (arith, a .low, a .high)) (a .here .fits));
+      together = λ l. rw (a .leads) (near-together h pos u level (omega (arith, a .low)) l);
     }
 
 pub placed-servers : (h : Hall) (whole : Bool) (table : List ℕ) (me place level far : ℕ) → Here h whole table me → Above h place level
-    → far ≡ neighbour (h .n) (level - 1) (firstOf h me + place) → Servers h me far
-unfolding servers
+    → far ≡ neighbour (h .n) (level - 1) (firstOf h me + place) → Servers h level me far
+unfolding servers firstOf cellSize cell
 placed-servers h whole table me place level far a p e =
     let k = valid-known h (a .sound) in
+    let pos : 0 < h .n = omega (arith, k .n-low) in
     let u : firstOf h me + place < servers h = uid-within h me place k (a .fits) (p .inside) in
     record {
       sound = a .sound;
       u-fits = a .fits;
-      v-fits = rw e (neighbour-in (h .n) (omega (arith, k .n-low)) (level - 1) (h .k) (firstOf h me + place) (omega (arith, p .low, p .high)) u);
+      v-fits = rw e (neighbour-in (h .n) pos (level - 1) (h .k) (firstOf h me + place) (omega (arith, p .low, p .high)) u);
+      together = λ l. rw e (same-trans (h .n) 1 me (firstOf h me + place) (neighbour (h .n) (level - 1) (firstOf h me + place))
+          (cell-same h pos (h .b) me (k .b-high) place (p .inside))
+          (near-together h pos (firstOf h me + place) level (omega (arith, p .low)) l));
     }
 
--- whether both are fitted, as the code asks
-module _ (h : Hall) (u v : ℕ) (s : Servers h u v) where
-  pub all-fitted : (r : ℕ) → r ≡ racksOf (h .n) (h .k) → h .count ≡ r → true ≡ both (fitted h u) (fitted h v)
-  unfolding isFull
-  all-fitted r e c =
-      let f : isFull h ≡ true = eq-eqb (h .count) (capacity (h .n) (h .k)) (c ∙ racks-valid h r (s .sound) e) in
-      rw (fitted-full h u f, fitted-full h v f)
+-- whether both are fitted, as the code asks: in a full hall every server is
+all-fitted : (h : Hall) (u v : ℕ) → isFull h ≡ true → true ≡ both (fitted h u) (fitted h v)
+all-fitted h u v f = rw (fitted-full h u f, fitted-full h v f)
 
-  module _ (near : Bool) (e : near ≡ isFitted h u) where
-    near-fitted : near ≡ fitted h u
-    near-fitted = e ∙ told-fitted h u (s .sound) (s .u-fits)
+module _ (h : Hall) (level u v : ℕ) (s : Servers h level u v) (near : Bool) (e : near ≡ isFitted h u) where
+  near-fitted : near ≡ fitted h u
+  near-fitted = e ∙ told-fitted h u (s .sound) (s .u-fits)
 
-    pub first-unfitted : near ≡ false → false ≡ both (fitted h u) (fitted h v)
-    first-unfitted q = first-decides (fitted h u) (fitted h v) near near-fitted q
+  pub first-unfitted : near ≡ false → false ≡ both (fitted h u) (fitted h v)
+  first-unfitted q = first-decides (fitted h u) (fitted h v) near near-fitted q
 
-    pub second-fitted : near ≡ true → (r : Bool) → r ≡ isFitted h v → r ≡ both (fitted h u) (fitted h v)
-    second-fitted q r f = second-decides (fitted h u) (fitted h v) near r near-fitted q (f ∙ told-fitted h v (s .sound) (s .v-fits))
+  -- in one DCell1 both are where one is
+  pub first-fitted : near ≡ true → level < 2 → true ≡ both (fitted h u) (fitted h v)
+  first-fitted q l = second-decides (fitted h u) (fitted h v) near true near-fitted q (sym q ∙ near-fitted ∙ fitted-same h u v (s .together l))
+
+  pub second-fitted : near ≡ true → (r : Bool) → r ≡ isFitted h v → r ≡ both (fitted h u) (fitted h v)
+  second-fitted q r f = second-decides (fitted h u) (fitted h v) near r near-fitted q (f ∙ told-fitted h v (s .sound) (s .v-fits))
 
 -- what the code makes of the two tests
 module _ (h : Hall) (whole : Bool) (table : List ℕ) (level : ℕ) (near : Bool) where
   module _ (me place : ℕ) (a : Here h whole table me) (b : Above h place level) (p : near ≡ usable h (held h whole table me) level place) where
     pub place-shut : near ≡ false → false ≡ usable h (lent h whole table me) level place
-    place-shut e = sym (usable-counts h table me place level b whole a ∙ rw (← p, e) (both-last (both (fitted h me) (fitted h (neighbour (h .n) (level - 1) (firstOf h me + place))))))
-      where
-        both-last : (f : Bool) → both f false ≡ false
-        both-last true = refl
-        both-last false = refl
+    place-shut e = sym (usable-counts h table me place level b whole a
+        ∙ both-false (both (fitted h me) (fitted h (neighbour (h .n) (level - 1) (firstOf h me + place)))) (usable h (held h whole table me) level place) (sym p ∙ e))
 
     pub place-fitted : near ≡ true → (far : ℕ) → far ≡ neighbour (h .n) (level - 1) (firstOf h me + place) → (r : Bool) → r ≡ both (fitted h me) (fitted h far)
         → r ≡ usable h (lent h whole table me) level place
-    place-fitted e far f r q = q ∙ rw f (sym (usable-counts h table me place level b whole a ∙ rw (← p, e) (both-true-last (both (fitted h me) (fitted h (neighbour (h .n) (level - 1) (firstOf h me + place)))))))
-      where
-        both-true-last : (f : Bool) → both f true ≡ f
-        both-true-last true = refl
-        both-true-last false = refl
+    place-fitted e far f r q = q ∙ rw f (sym (usable-counts h table me place level b whole a ∙ rw (← p, e) (both-alone (both (fitted h me) (fitted h (neighbour (h .n) (level - 1) (firstOf h me + place)))))))
+
+    pub place-full : near ≡ true → isFull h ≡ true → true ≡ usable h (lent h whole table me) level place
+    place-full e f = place-fitted e (neighbour (h .n) (level - 1) (firstOf h me + place)) refl true (all-fitted h me (neighbour (h .n) (level - 1) (firstOf h me + place)) f)
 
   -- by the uids of a crossing
   module _ (u v : ℕ) (a : Crossed h whole table u v level) (p : near ≡ usable h (held h whole table u) level (placeOf h u)) where
@@ -272,6 +275,9 @@ module _ (h : Hall) (whole : Bool) (table : List ℕ) (level : ℕ) (near : Bool
 
     pub link-shut : near ≡ false → false ≡ usable h (lent h whole table u) level (placeOf h u)
     link-shut = place-shut u (placeOf h u) (a .here) above p
+
+    pub link-full : near ≡ true → isFull h ≡ true → true ≡ usable h (lent h whole table u) level (placeOf h u)
+    link-full = place-full u (placeOf h u) (a .here) above p
 
     pub link-fitted : near ≡ true → (r : Bool) → r ≡ both (fitted h u) (fitted h v) → r ≡ usable h (lent h whole table u) level (placeOf h u)
     link-fitted e r q = place-fitted u (placeOf h u) (a .here) above p e v leads-on r q

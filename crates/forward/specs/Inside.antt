@@ -146,8 +146,9 @@ pub record Departing (h : Hall) (table : List ℕ) (me : ℕ) (p : Packet) : Typ
   pub fits : me < servers h
   pub packet : Sound h p
 
--- two servers of a hall
-pub record Servers (h : Hall) (u v : ℕ) : Type 0 where
+-- two servers of a hall, which a level below 2 does not lead out of one DCell1
+pub record Servers (h : Hall) (level u v : ℕ) : Type 0 where
   pub sound : valid h ≡ true
   pub u-fits : u < servers h
   pub v-fits : v < servers h
+  pub together : level < 2 → same (h .n) 1 u v ≡ true

@@ -9,7 +9,7 @@ ghost use lib.Dec.{eqb, ltb};
 ghost use lib.ListN.{length, getD, replicate};
 ghost use Rattle.combine.specs.Tests.{pick, both, either};
 ghost use Rattle.hall.specs.Cells.{same, neighbour};
-ghost use Rattle.hall.specs.Halls.{top, valid, servers};
+ghost use Rattle.hall.specs.Halls.{top, valid, isFull, servers};
 ghost use Rattle.hall.specs.Refusals.{refusal, bad-length};
 ghost use Rattle.route.specs.Answers.{firstLink};
 ghost use Rattle.local.specs.Local.{none, cellSize, placeOf, firstOf};
@@ -287,16 +287,24 @@ fn is_up_over(h: Hall, whole: bool, table: &[u8], level: u32, near: u32, far: u3
     ports::is_up(h, table, far, level)
 }
 
-// Whether both servers of a link are fitted; in a full hall every server is.
-fn are_fitted(h: Hall, near: u32, far: u32) -> bool
-    requires { ⌜ Servers h near far ⌝ }
+// Whether a hall is full: then every server is fitted.
+fn is_full(h: Hall) -> bool
+    requires { ⌜ valid h ≡ true ⌝ }
+    ensures { λ r. ⌜ r ≡ isFull h ⌝ }
+{
+    h.count == hall::racks_of(h.n, h.k)
+}
+
+// Whether both servers of a link are fitted; one of level 1 has them in one DCell1, which is fitted as a whole.
+fn are_fitted(h: Hall, level: u32, near: u32, far: u32) -> bool
+    requires { ⌜ Servers h level near far ⌝ }
     ensures { λ r. ⌜ r ≡ both (fitted h near) (fitted h far) ⌝ }
 {
-    if h.count == hall::racks_of(h.n, h.k) {
-        return true;
-    }
     if !plan::is_fitted(h, near) {
         return false;
+    }
+    if level < 2 {
+        return true;
     }
     plan::is_fitted(h, far)
 }
@@ -309,7 +317,10 @@ fn is_usable(h: Hall, whole: bool, table: &[u8], level: u32, near: u32, far: u32
     if !is_up_over(h, whole, table, level, near, far) {
         return false;
     }
-    are_fitted(h, near, far)
+    if is_full(h) {
+        return true;
+    }
+    are_fitted(h, level, near, far)
 }
 
 // The way to a local target.
@@ -409,7 +420,10 @@ fn is_usable_at(h: Hall, whole: bool, table: &[u8], me: u32, level: u32, place: 
     if !is_up_at(h, whole, table, me, level, place) {
         return false;
     }
-    are_fitted(h, me, proxy_of(h, me, place, level))
+    if is_full(h) {
+        return true;
+    }
+    are_fitted(h, level, me, proxy_of(h, me, place, level))
 }
 
 // Whether a place, whose distance is x, is a candidate at distance d.

@@ -7,12 +7,11 @@ use Prim.Native.Nat.{ℕ, zero, suc, _+_, _-_, _<_}
 use native.Mathlib.Omega.{arith}
 use lib.Dec.{eqb, leb}
 use lib.ListN.{replicate}
-use borrow.Author.Tests.{eq-eqb, lt-ltb}
 use Rattle.combine.specs.Tests.{pick, both, either}
 use Rattle.combine.proofs.Tests.{cases, both-false, pick-same}
 use Rattle.hall.specs.declared.Hall.{Hall}
 use Rattle.hall.specs.Cells.{cell, neighbour}
-use Rattle.hall.specs.Halls.{capacity, isFull, valid, servers}
+use Rattle.hall.specs.Halls.{valid, servers}
 use Rattle.hall.specs.Answers.{racksOf}
 use Rattle.hall.proofs.Growth.{Valid, valid-known}
 use Rattle.ports.specs.Codes.{not-fitted, isUp, codeOf, up}
@@ -21,7 +20,7 @@ use Rattle.search.specs.Reach.{Agree}
 use Rattle.search.proofs.Distance.{distances-agree}
 use Rattle.plan.specs.Answers.{fitted, isFitted}
 use Rattle.plan.proofs.Halls.{fitted-full}
-use Rattle.plan.proofs.Asks.{racks-valid}
+use Rattle.plan.proofs.Asks.{full-is, told-fitted}
 use Rattle.counted.proofs.Links.{joined-local, joined-none}
 use Rattle.local.specs.Local.{places, none, cellSize, firstOf, counting, linked, distancesFrom, distance, recordFrom, nearer, hop}
 use Rattle.local.proofs.Sizes.{size-fits}
@@ -63,15 +62,10 @@ module _ (h : Hall) (v : Valid h) (u : ℕ) (table : List ℕ) where
   hop-counting x y hx hy = lowest-agree (nearer h (counting h u table) x y) (nearer h Looked x y) (cellSize h) 0
       (λ z l. let lz : z < cellSize h = omega arith in rw (distances-counting y hy, linked-counting x z hx lz))
 
--- a server of the hall is fitted as the call tells
-pub told-fitted : (h : Hall) (u : ℕ) → valid h ≡ true → u < servers h → isFitted h u ≡ fitted h u
-told-fitted h u v l = rw (v, lt-ltb u (servers h) l)
-
 -- the codes that the code looks at, by its tests
 module _ (h : Hall) (u : ℕ) (v : valid h ≡ true) (table : List ℕ) where
   pub full-codes : (r : ℕ) → r ≡ racksOf (h .n) (h .k) → h .count ≡ r → table ≡ pick (fitted h u) table []
-  unfolding isFull
-  full-codes r e c = rw (fitted-full h u (eq-eqb (h .count) (capacity (h .n) (h .k)) (c ∙ racks-valid h r v e)))
+  full-codes r e c = rw (fitted-full h u (full-is h r v e c))
 
   module _ (l : u < servers h) (b : Bool) (e : b ≡ isFitted h u) where
     pub own-codes : b ≡ true → table ≡ pick (fitted h u) table []

@@ -1,5 +1,5 @@
 -- What the planner refuses, test by test, and what `is_fitted` answers in each of its cases.
-use mathlib.Core.Path.{_≡_, refl, sym, _∙_}
+use mathlib.Core.Path.{_≡_, refl, sym, _∙_, ap}
 use mathlib.Core.Bool.{Bool, true, false, not}
 use mathlib.Core.List.{[], _∷_}
 use Prim.Native.Nat.{ℕ, _-_, _*_, _<_, _≤_}
@@ -43,6 +43,14 @@ module _ (h : Hall) where
       let s = sized-known (h .n) (h .k) (k .n-low) (k .sized) in
       racks-known (h .n) (h .k) r (s .0) (s .1) e
 
+  -- a hall is full where its count is what the call tells that it can have
+  pub full-told : (r : ℕ) → valid h ≡ true → r ≡ racksOf (h .n) (h .k) → eqb (h .count) r ≡ isFull h
+  unfolding isFull
+  full-told r v e = ap (eqb (h .count)) (racks-valid r v e)
+
+  pub full-is : (r : ℕ) → valid h ≡ true → r ≡ racksOf (h .n) (h .k) → h .count ≡ r → isFull h ≡ true
+  full-is r v e m = sym (full-told r v e) ∙ eq-eqb (h .count) r m
+
   pub refused-is : refusal (asksPlan h) ≡ pick (valid h) (pick (leb 2 (h .k)) (pick (isFull h) 12 0) 1) 1
   refused-is = by-tests (valid h) (leb 2 (h .k)) (isFull h)
 
@@ -54,12 +62,10 @@ module _ (h : Hall) where
 
   module _ (v : valid h ≡ true) (l : 2 ≤ h .k) (r : ℕ) (e : r ≡ racksOf (h .n) (h .k)) where
     pub refused-full : h .count ≡ r → 12 ≡ refusal (asksPlan h)
-    unfolding isFull
-    refused-full m = rw (refused-is, v, le-leb 2 (h .k) l, eq-eqb (h .count) (capacity (h .n) (h .k)) (m ∙ racks-valid r v e))
+    refused-full m = rw (refused-is, v, le-leb 2 (h .k) l, full-is r v e m)
 
     pub refused-not : (h .count ≡ r → ⊥) → 0 ≡ refusal (asksPlan h)
-    unfolding isFull
-    refused-not m = rw (refused-is, v, le-leb 2 (h .k) l, ne-eqb (h .count) (capacity (h .n) (h .k)) (λ z. m (z ∙ sym (racks-valid r v e))))
+    refused-not m = rw (refused-is, v, le-leb 2 (h .k) l, sym (full-told r v e) ∙ ne-eqb (h .count) r m)
 
   -- what is known where the planner is not refused
   pub record Room : Type 0 where
@@ -81,6 +87,10 @@ module _ (h : Hall) where
       record { known = valid-known h v; high = leb-true 2 (h .k) k; below = omega arith }))
       (λ k. let q : 1 ≡ 0 = rw (v, k) at p in absurd (omega arith)))
       (λ v. let q : 1 ≡ 0 = rw v at p in absurd (omega arith))
+
+  -- a server of the hall is fitted as the call tells
+  pub told-fitted : (u : ℕ) → valid h ≡ true → u < servers h → isFitted h u ≡ fitted h u
+  told-fitted u v l = rw (v, lt-ltb u (servers h) l)
 
   -- whether a server is fitted, by the code's cases
   module _ (u r : ℕ) (e : r ≡ pick (valid h) (servers h) 0) where

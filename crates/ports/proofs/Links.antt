@@ -10,19 +10,13 @@ use lib.Dec.{eqb}
 use lib.Arith.{digits-div}
 use borrow.Author.Tests.{eqb-true, eq-eqb, ne-eqb}
 use Rattle.combine.specs.Tests.{both, either, anyBelow}
-use Rattle.combine.proofs.Tests.{never, both-ways, both-left, both-right, both-true, either-cases, either-true, any-in, any-some}
+use Rattle.combine.proofs.Tests.{never, both-ways, both-left, both-right, both-true, both-swap, either-cases, either-true, any-in, any-some}
 use Rattle.hall.specs.declared.Hall.{Hall}
 use Rattle.hall.specs.Cells.{t, cell, same, neighbour}
 use Rattle.hall.proofs.Cells.{same-eq, eq-same, same-sym, same-up, t-pos, neighbour-neighbour, neighbour-stays}
 use Rattle.ports.specs.Codes.{up, SameUps}
 use Rattle.ports.specs.Links.{onSwitch, bothUp, wired, joined, switchHas, touched}
 use Rattle.ports.proofs.Tables.{up-agrees}
-
-both-swap : (a b : Bool) → both a b ≡ both b a
-both-swap true true = refl
-both-swap true false = refl
-both-swap false true = refl
-both-swap false false = refl
 
 either-left : (a b : Bool) → a ≡ true → either a b ≡ true
 either-left a b e = rw e

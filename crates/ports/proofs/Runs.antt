@@ -12,13 +12,12 @@ use lib.ListN.{length, getD, take, drop, length-take, length-drop, List·getD-eq
 use lib.Seq.{getD-take, getD-drop}
 use borrow.Author.Tests.{eqb-true, eq-eqb, ltb-true, ltb-false, le-leb}
 use Rattle.combine.specs.Tests.{pick}
-use Rattle.combine.proofs.Tests.{cases, both-ways}
+use Rattle.combine.proofs.Tests.{cases, both-ways, both-alone}
 use Rattle.hall.specs.declared.Hall.{Hall}
 use Rattle.hall.specs.Cells.{t, cell, same, neighbour, neighbourOver}
 use Rattle.hall.proofs.Cells.{t-pos}
 use Rattle.ports.specs.Codes.{codeOf, up, cellLength, run, SameUps, EveryUp}
 use Rattle.ports.specs.Links.{onSwitch, bothUp, wired, joined}
-use Rattle.ports.proofs.Tables.{both-alone}
 use Rattle.ports.proofs.Parts.{Sound, run-within, t-whole}
 
 -- a run is as long as its DCell asks, where the hall table is sound

@@ -11,7 +11,7 @@ use lib.ListN.{length, getD, take, drop, length-drop, drop-of-length-le}
 use lib.Seq.{drop-cons, drop-drop}
 use borrow.Author.Tests.{eqb-true, eq-eqb, leb-true, le-leb, lt-leb}
 use Rattle.combine.specs.Tests.{pick, both}
-use Rattle.combine.proofs.Tests.{cases, both-left, both-right, both-true, both-false}
+use Rattle.combine.proofs.Tests.{cases, both-left, both-right, both-true, both-false, both-alone, both-joined}
 use Rattle.hall.specs.declared.Hall.{Hall}
 use Rattle.ports.specs.Codes.{known, allKnown, firstUnknown, codeOf, up, SameUps}
 
@@ -80,14 +80,6 @@ pub higher-second : (a b : ℕ) → a ≤ b → known b ≡ both (known a) (know
 higher-second a b h = cases (known b) (λ e. e ∙ sym (both-true (known a) (known b) (known-below a b h e) e)) (λ e. e ∙ sym (both-false (known a) (known b) e))
 
 -- whether all codes are known, from each place that is reached: by the highest so far, and what is left
-both-joined : (a b c : Bool) → both a (both b c) ≡ both (both a b) c
-both-joined true b c = refl
-both-joined false b c = refl
-
-pub both-alone : (a : Bool) → both a true ≡ a
-both-alone true = refl
-both-alone false = refl
-
 pub known-start : (codes : List ℕ) → both (known 0) (allKnown (drop 0 codes)) ≡ allKnown codes
 unfolding known
 known-start codes = refl

@@ -14,7 +14,7 @@ use Rattle.plan.specs.Answers.{fitted}
 use Rattle.local.specs.Local.{cell-table, cellSize, firstOf}
 use Rattle.local.proofs.Sizes.{cell-size, size-pos}
 use Rattle.local.proofs.Uids.{uid-within}
-use Rattle.local.proofs.Counting.{told-fitted}
+use Rattle.plan.proofs.Asks.{told-fitted}
 use Rattle.ends.specs.Filling.{runCode, runCounted}
 use Rattle.ends.proofs.Codes.{cell-few, some-factor}
 use Rattle.ends.proofs.Counts.{fitted-place, run-long, run-more}
