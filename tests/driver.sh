@@ -183,7 +183,7 @@ pass
 echo "== the object code, as $manual says"
 readelf -h "$library" | grep -q 'Machine: *Advanced Micro Devices X86-64' || fail "it is not for x86-64"
 if readelf -rW "$library" | grep -o 'R_X86_64_[A-Z0-9_]*' | grep -vxE 'R_X86_64_(PC32|PLT32)'; then fail "it depends on its position"; fi
-if nm -u "$library" | grep ' U ' | grep -vx ' *U memset'; then fail "it needs a symbol other than memset"; fi
+if nm -u "$library" | grep ' U '; then fail "it needs a symbol"; fi
 diff <(calls) <(nm -g --defined-only "$library" | awk 'NF == 3 { print $3 }' | sort) || fail "it does not define the calls alone"
 if readelf -SW "$library" | sed 's/^ *\[ *[0-9]*\] *//' | awk '$7 ~ /W/ && $5 !~ /^0+$/' | grep .; then fail "it has writable data"; fi
 objdump -d "$library" | cut -f 3 >"$folder/instructions"

@@ -5,9 +5,9 @@ use mathlib.Core.List.{List}
 use Prim.Native.Nat.{ℕ, zero, suc, _+_, _-_, _*_, _/_, _%_, _≤_, _<_}
 use native.Mathlib.Nat.{add-zero, div-add-mod', mul-le-mul}
 use native.Mathlib.Omega.{arith}
-use lib.Dec.{leb, ltb}
+use lib.Dec.{leb}
 use lib.ListN.{length}
-use borrow.Author.Tests.{ltb-true, ltb-false, leb-true, leb-false, le-leb, lt-ltb, le-ltb}
+use borrow.Author.Tests.{leb-true, leb-false, le-leb, lt-ltb, le-ltb}
 use Rattle.combine.specs.Lists.{upTo}
 use Rattle.combine.proofs.Tests.{cases}
 use Rattle.hall.specs.declared.Hall.{Hall}
@@ -24,7 +24,7 @@ use Rattle.local.proofs.Uids.{uid-in, uid-within}
 use Rattle.words.specs.Rooms.{put}
 use Rattle.ends.specs.Tables.{levels, farCount, farCode, farAt}
 use Rattle.ends.specs.Filling.{farBehind, layered}
-use Rattle.ends.proofs.Spread.{layered-put, layered-none}
+use Rattle.ends.proofs.Spread.{layered-all}
 
 -- two servers of one DCell of level j, so many places apart
 module _ (n j u p : ℕ) (s : same n j u (u + p) ≡ true) where
@@ -49,7 +49,7 @@ module _ (n j u p : ℕ) (s : same n j u (u + p) ≡ true) where
       (λ k. rw k (omega arith)))))
 
 -- where there is a far code, there is a level above b
-pub some-factor : (a b q : ℕ) → q < a * b → 0 < b
+some-factor : (a b q : ℕ) → q < a * b → 0 < b
 some-factor a zero q l = absurd (omega arith)
 some-factor a (suc b) q l = omega arith
 
@@ -128,7 +128,4 @@ code h table me d p = farCode h table (firstOf h me + p) (suc (h .b) + d)
 pub far-put : (h : Hall) (table : List ℕ) (me : ℕ) (room : List ℕ) (at : ℕ) → at + farCount h ≤ length room
     → layered room at (levels h) (code h table me) (cellSize h) (levels h) ≡ put room at (upTo (farAt h table me) (farCount h))
 unfolding farAt farCount
-far-put h table me room at w = cases (ltb 0 (levels h))
-    (λ q. layered-put room at (levels h) (code h table me) (cellSize h) (ltb-true 0 (levels h) q) w)
-    (λ q. let z : levels h ≡ 0 = omega (arith, ltb-false 0 (levels h) q) in
-    layered-none room at (levels h) (code h table me) (farAt h table me) (cellSize h) (cellSize h * levels h) z (rw z (omega arith)))
+far-put h table me room at w = layered-all room at (levels h) (code h table me) (farAt h table me) (cellSize h) w (λ q l. refl)

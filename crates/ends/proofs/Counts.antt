@@ -4,51 +4,37 @@ use mathlib.Core.Path.{_≡_, refl, sym, _∙_, ap}
 use mathlib.Core.Bool.{Bool, true, false}
 use mathlib.Core.List.{List, _++_}
 use Prim.Native.Nat.{ℕ, zero, suc, _+_, _-_, _*_, _/_, _%_, _≤_, _<_}
+use native.Mathlib.Nat.{div-add-mod'}
 use native.Mathlib.Numerals.{add-one}
 use native.Mathlib.Omega.{arith}
-use lib.ListN.{length, getD, drop, set, length-append, length-drop, List·getD-append}
+use lib.ListN.{length, getD, drop, length-append, length-drop, List·getD-append}
 use lib.Seq.{getD-append-add, drop-at}
-use borrow.Author.Tests.{eq-eqb}
 use Rattle.combine.specs.Tests.{pick, both}
 use Rattle.combine.specs.Lists.{upTo}
-use Rattle.combine.proofs.Lists.{length-upTo, getD-upTo, upTo-cong}
+use Rattle.combine.proofs.Tests.{both-swap}
+use Rattle.combine.proofs.Lists.{getD-upTo, upTo-cong}
 use Rattle.hall.specs.declared.Hall.{Hall}
 use Rattle.hall.specs.Cells.{cell, neighbour}
-use Rattle.hall.specs.Halls.{capacity, valid, isFull, servers}
-use Rattle.hall.specs.Answers.{racksOf}
-use Rattle.hall.proofs.Cells.{neighbour-neighbour, neighbour-stays}
+use Rattle.hall.specs.Halls.{valid, servers}
+use Rattle.hall.proofs.Cells.{neighbour-neighbour}
 use Rattle.hall.proofs.Growth.{valid-known}
 use Rattle.hall.proofs.Links.{neighbour-in}
 use Rattle.words.specs.Rooms.{put}
-use Rattle.words.proofs.Rooms.{length-put, put-put, put-byte}
+use Rattle.words.proofs.Rooms.{put-put}
 use Rattle.ports.specs.Codes.{not-fitted, cellLength, part}
 use Rattle.ports.proofs.Parts.{Sound}
 use Rattle.plan.specs.Answers.{fitted, isFitted}
-use Rattle.plan.proofs.Halls.{fitted-same}
-use Rattle.plan.proofs.Asks.{racks-valid, told-fitted}
-use Rattle.counted.specs.Counted.{farFitted, portFitted, countedAt, counted}
+use Rattle.plan.proofs.Asks.{told-fitted}
+use Rattle.counted.specs.Counted.{portFitted, countedAt, counted}
 use Rattle.counted.proofs.Counted.{cell-fitted, port-link, counted-code, counted-part}
 use Rattle.local.specs.Local.{cellSize, firstOf}
 use Rattle.ends.specs.Tables.{levels, farCount, stepLength, farCode, farAt, stepTable}
-use Rattle.ends.specs.Filling.{runCode, runCounted, tableCounted}
-use Rattle.ends.proofs.Spread.{put-behind}
+use Rattle.ends.specs.Filling.{spread, layered, portCode, runCode, runCounted, tableCounted}
+use Rattle.ends.proofs.Spread.{spread-ahead, spread-cong, layered-later, put-behind, layered-all}
 use Rattle.ends.proofs.Answers.{counted-sound, part-length, length-step}
 
-both-swap : (a b : Bool) → both a b ≡ both b a
-both-swap true true = refl
-both-swap true false = refl
-both-swap false true = refl
-both-swap false false = refl
-
 module _ (h : Hall) (pos : 0 < h .n) where
-  -- a port of level 0 or 1 of a fitted server counts
-  pub port-near : (u port : ℕ) → port < 2 → fitted h u ≡ true → portFitted h u port ≡ true
-  unfolding portFitted farFitted
-  port-near u zero l e = rw e
-  port-near u (suc zero) l e = rw (← fitted-same h u (neighbour (h .n) 0 u) (neighbour-stays (h .n) pos 0 u), e)
-  port-near u (suc (suc j)) l e = absurd (omega arith)
-
-  -- one of a higher level counts where its far server is fitted, as the call tells
+  -- a port of a level above 1 counts where its far server is fitted, as the call tells
   module _ (is-valid : valid h ≡ true) (u port far : ℕ) (here : u < servers h) (low : 2 ≤ port) (high : port ≤ h .k) (k : far ≡ neighbour (h .n) (port - 1) u) where
     far-here : neighbour (h .n) (port - 1) u < servers h
     unfolding servers
@@ -77,11 +63,6 @@ module _ (h : Hall) (pos : 0 < h .n) where
       let z : 0 + neighbour (h .n) (i - 1) u ≡ neighbour (h .n) (i - 1) u = omega arith in
       counted-code h 0 table (neighbour (h .n) (i - 1) u) i ∙ rw (z, f)
 
--- a hall is full where its count is what the call tells that it can have
-pub is-full : (h : Hall) → valid h ≡ true → (r : ℕ) → r ≡ racksOf (h .n) (h .k) → h .count ≡ r → isFull h ≡ true
-unfolding isFull
-is-full h is-valid r e m = eq-eqb (h .count) (capacity (h .n) (h .k)) (m ∙ racks-valid h r is-valid e)
-
 -- the servers of a DCell(b) are fitted together
 pub fitted-place : (h : Hall) → valid h ≡ true → (me p : ℕ) → p < cellSize h → fitted h (firstOf h me + p) ≡ fitted h me
 unfolding firstOf cell cellSize
@@ -89,28 +70,37 @@ fitted-place h is-valid me p l =
     let v = valid-known h is-valid in
     cell-fitted h (omega (arith, v .n-low)) (h .b) me (v .b-high) p l
 
--- a run of which the first q codes are counted
-module _ (h : Hall) (first lowest ports : ℕ) (room : List ℕ) (at q : ℕ) where
-  abbrev run-codes : List ℕ
-  run-codes = upTo (runCode h first lowest ports room at) q
+-- the codes of a port of which the first p are counted, and then one more
+pub port-more : (h : Hall) (first port : ℕ) (room : List ℕ) (at step p server code : ℕ) → 0 < step → server ≡ first + p
+    → code ≡ pick (portFitted h server port) (getD (spread room at step (portCode h first port room at step) p) (at + p * step) 0) not-fitted
+    → code ≡ portCode h first port room at step p
+unfolding portCode
+port-more h first port room at step p server code some e c =
+    c ∙ rw (e, spread-ahead step room at (portCode h first port room at step) p p some (omega arith))
 
-  pub run-long : at + q ≤ length room → length (put room at run-codes) ≡ length room
-  run-long l = length-put room at run-codes (omega (arith, length-upTo (runCode h first lowest ports room at) q))
+-- the code at a place of the cell for the port so many above `lowest`, in a run of so many ports
+abbrev pub code-above : Hall → ℕ → ℕ → ℕ → List ℕ → ℕ → ℕ → ℕ → ℕ
+code-above h first lowest ports room at d = portCode h first (lowest + d) room (at + d) ports
 
-  -- and then one more
-  module _ (l : at + q < length room) (server code : ℕ) (e : server ≡ first + q / ports)
-      (c : code ≡ pick (portFitted h server (lowest + q % ports)) (getD (put room at run-codes) (at + q) 0) not-fitted) where
-    code-is : code ≡ runCode h first lowest ports room at q
-    unfolding runCode
-    code-is =
-        let n = length-upTo (runCode h first lowest ports room at) q in
-        c ∙ rw (e, put-behind room at run-codes (omega arith) (at + q) (omega arith))
+-- such a run, counted port by port
+module _ (h : Hall) (first lowest ports : ℕ) (room : List ℕ) (at count : ℕ) where
+  abbrev codes : ℕ → ℕ → ℕ
+  codes = code-above h first lowest ports room at
 
-    pub run-more : set (put room at run-codes) (at + q) code ≡ put room at (upTo (runCode h first lowest ports room at) (q + 1))
-    unfolding upTo
-    run-more =
-        let n = length-upTo (runCode h first lowest ports room at) q in
-        rw (code-is, add-one q) (put-byte room at run-codes (runCode h first lowest ports room at q) (at + q) (omega arith) l)
+  -- the codes of the first d ports are counted, and then those of one more, which are as lent till then
+  pub run-more : (d : ℕ) → d < ports → (r : List ℕ) → r ≡ layered room at ports codes count d
+      → spread r (at + d) ports (portCode h first (lowest + d) r (at + d) ports) count ≡ layered room at ports codes count (d + 1)
+  unfolding layered portCode
+  run-more d l r e = rw (e, add-one d)
+      (spread-cong ports (layered room at ports codes count d) (at + d) (code-above h first lowest ports (layered room at ports codes count d) at d) (codes d) count
+      (λ p _. let z : at + d + p * ports ≡ at + (p * ports + d) = omega arith in rw (z, layered-later ports room at codes count d p d (omega arith) l)))
+
+  -- all ports together are the run
+  pub run-put : at + count * ports ≤ length room
+      → layered room at ports codes count ports ≡ put room at (upTo (runCode h first lowest ports room at) (count * ports))
+  unfolding portCode runCode
+  run-put w = layered-all room at ports codes (runCode h first lowest ports room at) count w
+      (λ q _. let e : at + q % ports + q / ports * ports ≡ at + q = omega (arith, div-add-mod' q ports) in rw e)
 
 -- a room for a step's table has place for the part, and behind it for the far codes
 pub near-room : (h : Hall) → cellSize h * (h .k + 1) ≤ stepLength h

@@ -12,7 +12,7 @@ use lib.Seq.{ext-getD, getD-set-same, getD-set-other, getD-append-add, getD-take
 use borrow.Author.Tests.{eqb-true, eqb-false, ltb-true, ltb-false}
 use Rattle.combine.specs.Lists.{upTo}
 use Rattle.combine.proofs.Tests.{cases}
-use Rattle.combine.proofs.Lists.{length-upTo, getD-upTo}
+use Rattle.combine.proofs.Lists.{length-upTo, getD-upTo, upTo-cong}
 use Rattle.words.specs.Rooms.{put}
 use Rattle.words.proofs.Rooms.{put-none, length-put}
 use Rattle.ends.specs.Filling.{spread, layered}
@@ -44,6 +44,25 @@ module _ (m : ℕ) where
       getD-set-other {A = ℕ} (spread room at m f q) (at + q * m) (at + p * m) (f q) 0 (λ k. omega (arith, mul-le-mul-right m d))
       ∙ spread-at room at f q p pos d w)
 
+  -- a place behind those written is as it was
+  pub spread-ahead : (room : List ℕ) (at : ℕ) (f : ℕ → ℕ) (count p : ℕ) → 0 < m → count ≤ p
+      → getD (spread room at m f count) (at + p * m) 0 ≡ getD room (at + p * m) 0
+  spread-ahead room at f count p pos l = spread-other room at f count (at + p * m) (λ q k e. let d : q < p = omega arith in omega (arith, mul-le-mul-right m d))
+
+  -- and so are the places of another list
+  spread-apart : (room : List ℕ) (at : ℕ) (f : ℕ → ℕ) (count d p e : ℕ) → d < m → e < m → (e ≡ d → ⊥)
+      → getD (spread room (at + d) m f count) (at + (p * m + e)) 0 ≡ getD room (at + (p * m + e)) 0
+  spread-apart room at f count d p e l k z = spread-other room (at + d) f count (at + (p * m + e))
+      (λ r o g. let s : p * m + e ≡ r * m + d = omega arith in
+      z (sym (digits-mod p k) ∙ ap (λ (y : ℕ). y % m) s ∙ digits-mod r l))
+
+  -- equal members are spread alike
+  pub spread-cong : (room : List ℕ) (at : ℕ) (f g : ℕ → ℕ) (count : ℕ) → ((p : ℕ) → p < count → f p ≡ g p)
+      → spread room at m f count ≡ spread room at m g count
+  unfolding spread
+  spread-cong room at f g zero e = refl
+  spread-cong room at f g (suc p) e = rw (spread-cong room at f g p (λ q l. e q (omega arith)), e p (omega arith))
+
   pub length-layered : (room : List ℕ) (at : ℕ) (f : ℕ → ℕ → ℕ) (count d : ℕ) → length (layered room at m f count d) ≡ length room
   unfolding layered
   length-layered room at f count zero = refl
@@ -70,10 +89,17 @@ module _ (m : ℕ) where
       let b : p * m + d < count * m = digits-lt k l in
       rw (z, a) (spread-at (layered room at m f count d) (at + d) (f d) count p (omega arith) k (rw (length-layered room at f count d) (omega arith))))
       (λ q. let z = eqb-false e d q in
-      spread-other (layered room at m f count d) (at + d) (f d) count (at + (p * m + e))
-      (λ r o g. let s : p * m + e ≡ r * m + d = omega arith in
-      z (sym (digits-mod p (omega arith)) ∙ ap (λ (y : ℕ). y % m) s ∙ digits-mod r l))
+      spread-apart (layered room at m f count d) at (f d) count d p e l (omega arith) z
       ∙ layered-at room at f count d p e (omega arith) k (omega arith) w)
+
+  -- place p of list e: as it was until that list is written
+  pub layered-later : (room : List ℕ) (at : ℕ) (f : ℕ → ℕ → ℕ) (count d p e : ℕ) → d ≤ e → e < m
+      → getD (layered room at m f count d) (at + (p * m + e)) 0 ≡ getD room (at + (p * m + e)) 0
+  unfolding layered
+  layered-later room at f count zero p e l k = refl
+  layered-later room at f count (suc d) p e l k =
+      spread-apart (layered room at m f count d) at (f d) count d p e (omega arith) k (λ q. omega arith)
+      ∙ layered-later room at f count d p e (omega arith) k
 
 -- what stands in a room with bytes put at a place
 module _ (room : List ℕ) (at : ℕ) (bytes : List ℕ) (w : at + length bytes ≤ length room) where
@@ -138,14 +164,21 @@ module _ (room : List ℕ) (at m : ℕ) (f : ℕ → ℕ → ℕ) (count : ℕ) 
       (λ g. let l = ltb-false i (at + count * m) g in
       layered-outside m room at f count m i (omega arith) (λ q o k. omega arith) ∙ sym (put-behind room at bytes (rw many w) i (rw many l))))
 
-  pub layered-put : layered room at m f count m ≡ put room at (upTo (λ q. f (q % m) (q / m)) (count * m))
+  layered-put : layered room at m f count m ≡ put room at (upTo (λ q. f (q % m) (q / m)) (count * m))
   unfolding bytes
   layered-put = ext-getD {A = ℕ} 0 (layered room at m f count m) (put room at bytes)
       (length-layered m room at f count m ∙ sym (length-put room at bytes (rw many w)))
       (λ i _. each i)
 
 -- with no list nothing is put
-pub layered-none : (room : List ℕ) (at m : ℕ) (f : ℕ → ℕ → ℕ) (g : ℕ → ℕ) (count bytes : ℕ) → m ≡ 0 → bytes ≡ 0
+layered-none : (room : List ℕ) (at m : ℕ) (f : ℕ → ℕ → ℕ) (g : ℕ → ℕ) (count bytes : ℕ) → m ≡ 0 → bytes ≡ 0
     → layered room at m f count m ≡ put room at (upTo g bytes)
 unfolding layered upTo
 layered-none room at m f g count bytes e z = rw (e, z) (sym (put-none room at))
+
+-- any number of lists together are their members one behind the other
+pub layered-all : (room : List ℕ) (at m : ℕ) (f : ℕ → ℕ → ℕ) (g : ℕ → ℕ) (count : ℕ) → at + count * m ≤ length room
+    → ((q : ℕ) → q < count * m → f (q % m) (q / m) ≡ g q) → layered room at m f count m ≡ put room at (upTo g (count * m))
+layered-all room at m f g count w same = cases (ltb 0 m)
+    (λ e. layered-put room at m f count (ltb-true 0 m e) w ∙ ap (put room at) (upTo-cong (λ q. f (q % m) (q / m)) g (count * m) same))
+    (λ e. let z : m ≡ 0 = omega (arith, ltb-false 0 m e) in layered-none room at m f g count (count * m) z (rw z (omega arith)))

@@ -1,5 +1,5 @@
 -- How a step's table is written: the far codes level by level, each level's to every so many places of the room; and then, where the hall is not
--- full, each code as it counts.
+-- full, each code as it counts, port by port in the same way.
 -- Requests K3 and K5.
 use mathlib.Core.List.{List}
 use Prim.Native.Nat.{ℕ, zero, suc, _+_, _*_, _/_, _%_}
@@ -28,6 +28,10 @@ spread room at m f (suc p) = set (spread room at m f p) (at + p * m) (f p)
 unfoldable pub layered : List ℕ → ℕ → ℕ → (ℕ → ℕ → ℕ) → ℕ → ℕ → List ℕ
 layered room at m f count zero = room
 layered room at m f count (suc d) = spread (layered room at m f count d) (at + d) m (f d) count
+
+-- the code of one port of the server p places behind `first`, as it counts; such codes stand at every `step`-th place of the room from `at` on
+unfoldable pub portCode : Hall → ℕ → ℕ → List ℕ → ℕ → ℕ → ℕ → ℕ
+portCode h first port room at step p = pick (portFitted h (first + p) port) (getD room (at + p * step) not-fitted) not-fitted
 
 -- code q of a run that stands in the room from `at` on, as it counts: of each server from `first` on so many ports from `lowest` on, or the far
 -- ports of their links, which have the same two servers

@@ -14,7 +14,7 @@ ghost use Rattle.plan.specs.Answers.{fitted};
 ghost use Rattle.counted.specs.Counted.{portFitted};
 ghost use Rattle.local.specs.Local.{cellSize, firstOf};
 ghost use Rattle.ends.specs.Tables.{levels, farCount, stepLength, farCode, farAt};
-ghost use Rattle.ends.specs.Filling.{farBehind, spread, runCounted, tableCounted};
+ghost use Rattle.ends.specs.Filling.{farBehind, spread, portCode, runCounted, tableCounted};
 ghost use Rattle.ends.specs.Answers.{ofStepTable};
 use hall::Hall;
 use hall::refusals::SHORT_ROOM;
@@ -103,20 +103,33 @@ fn code_counted(h: Hall, here: bool, uid: u32, port: u32, code: u8) -> u8
     code
 }
 
+// Makes the codes of one port of each server of a DCell(b) as they count; they stand at every `step`-th place of the room from `at` on.
+fn count_port(h: Hall, here: bool, uid: u32, port: u32, room: &mut [u8], at: usize, step: usize)
+    requires { ⌜ (valid h ≡ true) × (uid < servers h) × (port ≤ h .k) × (here ≡ fitted h uid) × (0 < step) × (step ≤ h .k + 1) × (at + cellSize h * step < length (now room) + step) ⌝ }
+    ensures { λ _. ⌜ now (room .exit) ≡ spread (now (room .entry)) at step (portCode h (firstOf h uid) port (now (room .entry)) at step) (cellSize h) ⌝ }
+{
+    let count = hall::size_of(h, h.b);
+    let first = uid / count * count;
+    let mut next = at;
+    let mut p: u32 = 0;
+    while p < count {
+        room[next] = code_counted(h, here, first + p, port, room[next]);
+        next += step;
+        p += 1;
+    }
+}
+
 // Makes the codes of a run in the room as they count: those of each server of a DCell(b), for so many ports from `lowest` on.
 fn count_run(h: Hall, uid: u32, lowest: u32, ports: u32, room: &mut [u8], at: usize)
     requires { ⌜ (valid h ≡ true) × (uid < servers h) × (lowest + ports ≤ h .k + 1) × (at + cellSize h * ports ≤ length (now room)) ⌝ }
     ensures { λ _. ⌜ now (room .exit) ≡ runCounted h uid lowest ports (now (room .entry)) at ⌝ }
 {
     let here = plan::is_fitted(h, uid);
-    let count = hall::size_of(h, h.b);
-    let first = uid / count * count;
-    let all = count * ports;
-    let mut q: u32 = 0;
-    while q < all {
-        let next = at + (q as usize);
-        room[next] = code_counted(h, here, first + q / ports, lowest + q % ports, room[next]);
-        q += 1;
+    let step = ports as usize;
+    let mut d: u32 = 0;
+    while d < ports {
+        count_port(h, here, uid, lowest + d, room, at + (d as usize), step);
+        d += 1;
     }
 }
 

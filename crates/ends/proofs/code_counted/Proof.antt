@@ -7,8 +7,8 @@ use Rattle.hall.proofs.Growth.{valid-known}
 use Rattle.cells.specs.declared.Neighbour.{Neighbour}
 use Rattle.cells.proofs.Asks.{neighbour-told}
 use Rattle.counted.specs.Counted.{portFitted}
-use Rattle.counted.proofs.Counted.{port-none}
-use Rattle.ends.proofs.Counts.{port-near, port-told}
+use Rattle.counted.proofs.Counted.{port-none, port-near}
+use Rattle.ends.proofs.Counts.{port-told}
 use Rattle.ends.proofs.code_counted.Statement.{statement}
 use Rattle.ends.proofs.code_counted.Tie as tie
 

@@ -14,11 +14,12 @@ use Rattle.local.specs.Local.{places, cellSize}
 use Rattle.local.proofs.Sizes.{cell-size}
 use Rattle.ports.specs.Codes.{cellLength, part}
 use Rattle.ports.proofs.Parts.{Sound}
+use Rattle.plan.proofs.Asks.{full-is}
 use Rattle.counted.proofs.Counted.{counted-full}
 use Rattle.ends.specs.Tables.{farCount, farAt, stepLength, stepTable}
 use Rattle.ends.proofs.Codes.{all-far, far-few, cell-bytes}
 use Rattle.ends.proofs.Answers.{part-length, table-refused, part-sound, part-is, table-plain, table-short, table-told, table-written}
-use Rattle.ends.proofs.Counts.{is-full, counted-table}
+use Rattle.ends.proofs.Counts.{counted-table}
 use Rattle.ends.proofs.step_table.Statement.{statement}
 use Rattle.ends.proofs.step_table.Tie as tie
 
@@ -115,7 +116,7 @@ returns-3 c =
     let e = k .before .before .before .before .part-refusal .ensures in
     let z = k .before .before .before .if1 .left in
     let m = enough (c .before .before .before .before .before .before .before .before .before .before .before) in
-    let f = is-full (s .args .h) (found k .is-valid) (c .before .before .racks-of .result) (c .before .before .racks-of .ensures) (c .if3 .taken) in
+    let f = full-is (s .args .h) (c .before .before .racks-of .result) (found k .is-valid) (c .before .before .racks-of .ensures) (c .if3 .taken) in
     let t = counted-full (s .args .h) 0 (s .args .table .now) f in (
       table-told (s .args .h) (s .args .table .now) (s .args .uid) _ e (s .args .room .now) z m,
       plain (c .before .before .before .before .before)
