@@ -25,9 +25,9 @@ use Rattle.forward.specs.Journeys.{Trip, stepAt, trip}
 use Rattle.forward.specs.Travels.{Travels, last-step, one-step}
 use Rattle.forward.proofs.Links.{n-pos}
 use Rattle.forward.proofs.Trips.{trip-travels}
-use Rattle.broadcast.proofs.Fitted.{rounds-unfitted}
+use Rattle.broadcast.proofs.Fitted.{rounds-unfitted, rounds-local, rounds-front}
 use Rattle.promises.specs.Journeys.{Sound}
-use Rattle.promises.specs.Filling.{CodesCount, FullUnchanged, UsableFitted, FittedOnly, UnfittedStays, UnfittedAlone}
+use Rattle.promises.specs.Filling.{CodesCount, FullUnchanged, UsableFitted, FittedOnly, UnfittedStays, UnfittedAlone, LocalRounds, FrontRounds}
 use Rattle.promises.proofs.AnyCodes.{Stands, departs, stands-on, hops-usable, sound-counted}
 
 pub codes-count : CodesCount
@@ -78,3 +78,9 @@ unfitted-stays h table source p s f =
 
 pub unfitted-alone : UnfittedAlone
 unfitted-alone h table source s v f e = rounds-unfitted h table source s v f e
+
+pub local-rounds : LocalRounds
+local-rounds h table source s v f low e = rounds-local h table source s v f low e
+
+pub front-rounds : FrontRounds
+front-rounds h table source v b f e = rounds-front h table source v b f e

@@ -2,22 +2,22 @@
 -- The planner's own promises stand in the crate `plan`.
 use mathlib.Core.Path.{_≡_}
 use mathlib.Core.Bool.{true, false}
-use mathlib.Core.List.{List}
-use Prim.Native.Nat.{ℕ, _%_, _<_}
-use lib.ListN.{length, getD}
+use mathlib.Core.List.{List, _++_}
+use Prim.Native.Nat.{ℕ, _-_, _%_, _<_}
+use lib.ListN.{length, getD, replicate}
 use Rattle.combine.specs.Tests.{pick, both}
 use Rattle.hall.specs.declared.Hall.{Hall}
-use Rattle.hall.specs.Halls.{valid, isFull}
+use Rattle.hall.specs.Halls.{valid, isFull, servers}
 use Rattle.ports.specs.Codes.{not-fitted, codeOf}
 use Rattle.ports.specs.Links.{joined}
-use Rattle.plan.specs.Answers.{fitted}
+use Rattle.plan.specs.Answers.{fitted, fittedServers}
 use Rattle.counted.specs.Counted.{portFitted, counted}
 use Rattle.local.specs.Local.{counting}
 use Rattle.ends.specs.Tables.{lentCounted}
 use Rattle.forward.specs.declared.Packet.{Packet}
 use Rattle.forward.specs.Journeys.{trip}
-use Rattle.search.specs.Rounds.{start}
-use Rattle.broadcast.specs.Broadcasts.{none, scopeFits, scopeSize, roundsOf}
+use Rattle.search.specs.Rounds.{start, distances}
+use Rattle.broadcast.specs.Broadcasts.{none, scopeFits, scopeSize, linked, rounds, roundsOf}
 use Rattle.promises.specs.Journeys.{Sound}
 
 -- a port whose own server or far server isn't fitted counts as code 0, every other as it stands
@@ -52,3 +52,14 @@ UnfittedStays = (h : Hall) (table : List ℕ) (source : ℕ) (p : Packet) → So
 abbrev pub UnfittedAlone : Type 0
 UnfittedAlone = (h : Hall) (table : List ℕ) (source s : ℕ) → valid h ≡ true → scopeFits h s ≡ true → fitted h source ≡ false
     → roundsOf h table source s ≡ start (scopeSize h s) none (source % scopeSize h s)
+
+-- within a fitted DCell1 a broadcast goes as the codes stand
+abbrev pub LocalRounds : Type 0
+LocalRounds = (h : Hall) (table : List ℕ) (source s : ℕ) → valid h ≡ true → scopeFits h s ≡ true → s < 2 → fitted h source ≡ true
+    → roundsOf h table source s ≡ rounds h table source s
+
+-- within a DCell2 it goes among the fitted servers, which are its first, and reaches nobody behind them
+abbrev pub FrontRounds : Type 0
+FrontRounds = (h : Hall) (table : List ℕ) (source : ℕ) → valid h ≡ true → source < servers h → scopeFits h 2 ≡ true → fitted h source ≡ true
+    → roundsOf h table source 2
+    ≡ distances (linked h table source 2) (fittedServers h source) none (source % scopeSize h 2) ++ replicate (scopeSize h 2 - fittedServers h source) none
