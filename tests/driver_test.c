@@ -64,7 +64,7 @@ static const char worked_part_step[] = "00000000 00000000 0000000C 00000001 0000
 #define STRIDE (RANDOM_QUESTIONS < 6000u ? 7u : 1u)
 /* The greatest number. */
 #define HUGE_WORD 4294967295u
-/* The stack in bytes that no call may exceed, as docs/DRIVER.md says: a multiple of 16, and no more than about a tenth above what was measured. */
+/* The stack in bytes that no call may exceed, as docs/DRIVER.md says: a multiple of 16, at what was measured or a little above. */
 #define STEP_STACK 1792u
 #define ROUTE_STACK 512u
 #define READ_STACK 112u
