@@ -11,7 +11,7 @@ use lib.ListN.{length, getD, set, length-set, List·getD-eq-default}
 use lib.Seq.{getD-set-same, getD-set-other}
 use borrow.Author.Tests.{eqb-true, eqb-false, eq-eqb, ne-eqb, ltb-true, ltb-false, lt-ltb, le-ltb, lt-leb}
 use Rattle.combine.specs.Tests.{pick, both, either, anyBelow}
-use Rattle.combine.proofs.Tests.{cases, never, both-ways, both-left, both-right, both-true, either-cases, either-true, either-false, any-in, any-some, any-cong}
+use Rattle.combine.proofs.Tests.{cases, never, both-ways, both-left, both-right, both-true, both-false, both-either, either-left, either-right, either-cases, either-true, either-false, any-in, any-some, any-cong}
 use Rattle.broadcast.specs.Broadcasts.{none}
 use Rattle.broadcast.specs.Sweeps.{fresh, swept, Sweep}
 
@@ -76,16 +76,6 @@ sweep-cong q p r old room any f s = record {
 pub fresh-cong : (q p : ℕ → Bool) (old : List ℕ) → ((x : ℕ) → q x ≡ p x) → (x : ℕ) → fresh q old x ≡ fresh p old x
 unfolding fresh
 fresh-cong q p old f x = ap (λ (b : Bool). both (eqb (getD old x 0) none) b) (f x)
-
-either-left : (a b : Bool) → a ≡ true → either a b ≡ true
-either-left a b e = rw e
-
-either-right : (a b : Bool) → b ≡ true → either a b ≡ true
-either-right a b e = rw e (either-true a)
-
-both-either : (c a b : Bool) → both c (either a b) ≡ either (both c a) (both c b)
-both-either true a b = refl
-both-either false a b = refl
 
 any-either : (p q : ℕ → Bool) (n : ℕ) → anyBelow (λ x. either (p x) (q x)) n ≡ either (anyBelow p n) (anyBelow q n)
 any-either p q n =
@@ -166,11 +156,7 @@ fresh-below q old b = rw (lt-ltb b (b + 1) (omega arith))
 
 fresh-not-below : (q : ℕ → Bool) (old : List ℕ) (b : ℕ) → fresh (below q b) old b ≡ false
 unfolding fresh
-fresh-not-below q old b = rw (le-ltb b b (omega arith)) (both-none (eqb (getD old b 0) none))
-  where
-    both-none : (c : Bool) → both c false ≡ false
-    both-none true = refl
-    both-none false = refl
+fresh-not-below q old b = rw (le-ltb b b (omega arith)) (both-false (eqb (getD old b 0) none) false refl)
 
 fresh-other : (q : ℕ → Bool) (old : List ℕ) (b x : ℕ) → (x ≡ b → ⊥) → fresh (below q b) old x ≡ fresh (below q (b + 1)) old x
 unfolding fresh

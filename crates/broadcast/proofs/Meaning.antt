@@ -1,18 +1,16 @@
 -- What a broadcast's numbers mean: each is the least number of usable links from the source, or says that no number of links will do;
 -- with every port up everyone is reached, in fewer than 2 ^ (s + 1) rounds.
 use mathlib.Core.Path.{_≡_, sym, _∙_, ap}
-use mathlib.Core.Bool.{true, not}
+use mathlib.Core.Bool.{true}
 use mathlib.Core.List.{List}
 use Prim.Native.Nat.{ℕ, zero, suc, _+_, _-_, _%_, _^_, _≤_, _<_}
 use native.Mathlib.Nat.{mod-lt}
 use native.Mathlib.Omega.{arith}
 use native.Mathlib.Numerals.{add-one}
-use lib.Dec.{eqb, leb, lit≤}
+use lib.Dec.{lit≤}
 use lib.ListN.{getD}
-use borrow.Author.Tests.{eq-eqb, ne-eqb, leb-true, leb-false}
-use Rattle.combine.proofs.Tests.{cases, both-true, either-true}
 use Rattle.hall.specs.declared.Hall.{Hall}
-use Rattle.hall.specs.Cells.{t, same, neighbour}
+use Rattle.hall.specs.Cells.{t}
 use Rattle.hall.proofs.Links.{hall-same}
 use Rattle.hall.proofs.Growth.{Valid, valid-known, valid-pos}
 use Rattle.route.specs.Walks.{Joined, switch, link}
@@ -20,12 +18,10 @@ use Rattle.route.specs.Walks as walks
 use Rattle.route.proofs.Routes.{route-walk, route-length}
 use Rattle.route.proofs.Local as route-local
 use Rattle.ports.specs.Codes.{EveryUp, SameUps, cellLength, run}
-use Rattle.ports.specs.Links.{onSwitch, wired}
-use Rattle.ports.proofs.Links.{same-below, joined-symmetric, joined-agrees}
+use Rattle.ports.specs.Links.{wired}
+use Rattle.ports.proofs.Links.{same-below, wired-switch, wired-link, joined-symmetric, joined-agrees}
 use Rattle.ports.proofs.Parts.{Sound}
 use Rattle.ports.proofs.Runs.{joined-run, joined-every, length-run, run-every}
-use Rattle.counted.specs.Counted.{counted}
-use Rattle.counted.proofs.Counted.{counted-length}
 use Rattle.search.specs.Rounds.{reachedCount, lastRound}
 use Rattle.search.specs.Reach.{Means, Symmetric, Walk, done, step}
 use Rattle.search.proofs.Reach.{walk-long}
@@ -34,21 +30,10 @@ use Rattle.search.proofs.Counts.{reached-start, reached-more, last-reached}
 use Rattle.broadcast.specs.Broadcasts.{none, scopeFits, scopeSize, firstIn, linked, rounds}
 use Rattle.broadcast.proofs.Refusals.{scope-low, scope-two, scope-small}
 
--- each link of level at most l is one of `wired`
-wired-more : (n l m x y : ℕ) → l ≤ m → wired n l x y ≡ true → wired n m x y ≡ true
-unfolding wired
-wired-more n l zero x y h e = let z : l ≡ 0 = omega arith in rw z at e
-wired-more n l (suc m) x y h e =
-    cases (leb l m)
-    (λ q. rw (wired-more n l m x y (leb-true l m q) e))
-    (λ q. let z : l ≡ suc m = omega (arith, leb-false l m q) in rw z at e)
-
+-- a link of a walk is wired
 link-wired : (n : ℕ) {l x y : ℕ} → Joined n l x y → wired n l x y ≡ true
-unfolding wired onSwitch
-link-wired n {l} {x} {y} (switch e d) =
-    wired-more n 0 l x y (omega arith) (both-true (same n 0 x y) (not (eqb x y)) e (ap not (ne-eqb x y d)))
-link-wired n {l} {x} {y} (link j h e) =
-    wired-more n (suc j) l x y h (rw (eq-eqb (neighbour n j x) y e) (either-true (wired n j x y)))
+link-wired n {l} {x} {y} (switch e d) = wired-switch n l x y e d
+link-wired n {l} {x} {y} (link j h e) = wired-link n j l x y h e
 
 -- where each number is below m, all are counted, and the last round is below m
 pub counts-all : (old : List ℕ) (n m : ℕ) → m ≤ none → ((v : ℕ) → v < n → getD old v 0 < m) → reachedCount none old n ≡ n
@@ -146,7 +131,3 @@ module _ (h : Hall) (table : List ℕ) (u s : ℕ) (k : Sound h table u) (f : sc
 
     pub every-last : lastRound none (rounds h table u s) (scopeSize h s) < 2 ^ suc s
     every-last = last-below (rounds h table u s) (scopeSize h s) (2 ^ suc s) scope-pos (omega (arith, small-power s (scope-two h s f))) every-soon
-
--- so much for any table; the one that the answers go by is as sound as the table that it counts
-pub counted-sound : (h : Hall) (table : List ℕ) (u : ℕ) → Sound h table u → Sound h (counted h 0 table) u
-counted-sound h table u k = record { is-valid = k .is-valid; long = counted-length h 0 table ∙ k .long; below = k .below }

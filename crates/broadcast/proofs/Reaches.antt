@@ -13,7 +13,7 @@ use lib.ListN.{length, getD}
 use lib.Seq.{ext-getD}
 use borrow.Author.Tests.{eqb-true, ltb-true, ltb-false, lt-ltb, le-ltb, leb-true, le-leb, lt-leb}
 use Rattle.combine.specs.Tests.{pick, both, either, anyBelow}
-use Rattle.combine.proofs.Tests.{cases, never, both-ways, both-left, both-right, any-in, any-some}
+use Rattle.combine.proofs.Tests.{cases, never, both-ways, both-left, both-right, both-false, both-either, either-false, any-in, any-some}
 use Rattle.hall.specs.declared.Hall.{Hall}
 use Rattle.hall.specs.Cells.{t, cell, neighbour}
 use Rattle.hall.proofs.Cells.{same-mono, neighbour-stays}
@@ -33,11 +33,7 @@ use Rattle.broadcast.proofs.Marks.{below, swept-old, sweep-reads}
 -- who fails the test is not fresh
 pub fresh-fails : (q : ℕ → Bool) (old : List ℕ) (x : ℕ) → q x ≡ false → fresh q old x ≡ false
 unfolding fresh
-fresh-fails q old x e = rw e (both-no (eqb (getD old x 0) none))
-  where
-    both-no : (c : Bool) → both c false ≡ false
-    both-no true = refl
-    both-no false = refl
+fresh-fails q old x e = rw e (both-false (eqb (getD old x 0) none) false refl)
 
 -- two tests that agree on x
 pub fresh-at : (q p : ℕ → Bool) (old : List ℕ) (x : ℕ) → q x ≡ p x → fresh q old x ≡ fresh p old x
@@ -118,12 +114,8 @@ module _ (h : Hall) (table : List ℕ) where
     dead-switch s old x e =
         fresh-fails (onSwitch h table p s) old x
         (cases (between (s * h .n) (s * h .n + h .n) x)
-        (λ b. rw (b, switch-of s x b, e) (both-no (up h table x 0)))
+        (λ b. rw (b, switch-of s x b, e) (both-false (up h table x 0) false refl))
         (λ b. rw b))
-      where
-        both-no : (c : Bool) → both c false ≡ false
-        both-no true = refl
-        both-no false = refl
 
     pub live-switch : (s : ℕ) (old : List ℕ) (x : ℕ) → switchHas h table p s ≡ true → fresh (openOn h table s) old x ≡ fresh (onSwitch h table p s) old x
     unfolding openOn onSwitch touched
@@ -171,24 +163,16 @@ module _ (h : Hall) (table : List ℕ) where
     -- the switches, then the levels
     split : (size s x : ℕ) → either (onSwitches h table p size x) (onLevels h table p size s x) ≡ within h table p size s x
     unfolding onSwitches onLevels onLinks overLink within touched
-    split size zero x = or-no (both (ltb x size) (touched h table p 0 x))
-      where
-        or-no : (c : Bool) → either c false ≡ c
-        or-no true = refl
-        or-no false = refl
+    split size zero x = either-false (both (ltb x size) (touched h table p 0 x))
     split size (suc j) x =
         let link : Bool = both (p (neighbour (h .n) j x)) (bothUp h table (suc j) (neighbour (h .n) j x) x) in
         regroup (both (ltb x size) (touched h table p 0 x)) (onLevels h table p size j x) (both (ltb x size) link)
         ∙ ap (λ (k : Bool). either k (both (ltb x size) link)) (split size j x)
-        ∙ shared (ltb x size) (touched h table p j x) link
+        ∙ sym (both-either (ltb x size) (touched h table p j x) link)
       where
         regroup : (a b c : Bool) → either a (either b c) ≡ either (either a b) c
         regroup true b c = refl
         regroup false b c = refl
-
-        shared : (c a b : Bool) → either (both c a) (both c b) ≡ both c (either a b)
-        shared true a b = refl
-        shared false a b = refl
 
     pub within-split : (size s : ℕ) (old : List ℕ) (x : ℕ)
         → fresh (λ y. either (onSwitches h table p size y) (onLevels h table p size s y)) old x ≡ fresh (within h table p size s) old x

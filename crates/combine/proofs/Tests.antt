@@ -61,6 +61,16 @@ pub either-true : (b : Bool) → either b true ≡ true
 either-true true = refl
 either-true false = refl
 
+pub either-left : (a b : Bool) → a ≡ true → either a b ≡ true
+either-left a b e = rw e
+
+pub either-right : (a b : Bool) → b ≡ true → either a b ≡ true
+either-right a b e = rw e (either-true a)
+
+pub both-either : (c a b : Bool) → both c (either a b) ≡ either (both c a) (both c b)
+both-either true a b = refl
+both-either false a b = refl
+
 pub either-cases {ℓ} : {A : Type ℓ} (a b : Bool) → either a b ≡ true → (a ≡ true → A) → (b ≡ true → A) → A
 either-cases true b e f g = f refl
 either-cases false b e f g = g e

@@ -132,6 +132,10 @@ module _ (h : Hall) where
       byte : eqb (countedAt h first a i) code-up ≡ eqb (countedAt h first b i) code-up
       byte = cases (portFitted h (first + i / (h .k + 1)) (i % (h .k + 1))) (λ e. rw e (s i)) (λ e. rw e)
 
+  -- a hall table as its codes count is as sound
+  pub counted-sound : (table : List ℕ) (u : ℕ) → Sound h table u → Sound h (counted h 0 table) u
+  counted-sound table u s = record { is-valid = s .is-valid; long = counted-length 0 table ∙ s .long; below = s .below }
+
   -- a port of level 0 or 1 leads to no other DCell1, so it counts where its server is fitted
   pub port-near : 0 < h .n → (u port : ℕ) → port < 2 → fitted h u ≡ true → portFitted h u port ≡ true
   unfolding portFitted farFitted

@@ -7,7 +7,7 @@ use native.Mathlib.Omega.{arith}
 use lib.Dec.{eqb}
 use borrow.Author.Tests.{eqb-true}
 use Rattle.combine.specs.Tests.{both, either}
-use Rattle.combine.proofs.Tests.{cases, both-false, both-left, both-right}
+use Rattle.combine.proofs.Tests.{cases, both-false, both-left, both-right, both-either}
 use Rattle.hall.specs.declared.Hall.{Hall}
 use Rattle.hall.specs.Cells.{t, cell, neighbour}
 use Rattle.hall.proofs.Cells.{neighbour-neighbour}
@@ -32,10 +32,6 @@ both-pair true true a b = refl
 both-pair true false a b = refl
 both-pair false g a b = refl
 
-either-out : (f a b : Bool) → either (both f a) (both f b) ≡ both f (either a b)
-either-out true a b = refl
-either-out false a b = refl
-
 module _ (h : Hall) (pos : 0 < h .n) (c i : ℕ) (table : List ℕ) where
   -- A USABLE LINK OF LEVEL AT MOST l BY THE COUNTED TABLE: BOTH SERVERS FITTED, AND USABLE BY THE TABLE
   pub joined-counted : (l x y : ℕ) → l ≤ i
@@ -59,7 +55,7 @@ module _ (h : Hall) (pos : 0 < h .n) (c i : ℕ) (table : List ℕ) where
       rw (e, counted-up h C table x (suc j), counted-up h C table y (suc j), port-link h (C + x) j, port-link h (C + y) j, nx, ny)
       (both-pair (fitted h (C + x)) (fitted h (C + y)) (up h table x (suc j)) (up h table y (suc j))))
       (λ e. rw e (sym (both-false F false refl))) in
-      rw (ih, w) (either-out F (joined h table j x y) (both (eqb (neighbour (h .n) j x) y) B))
+      rw (ih, w) (sym (both-either F (joined h table j x y) (both (eqb (neighbour (h .n) j x) y) B)))
 
 -- both ends of a server's link of level j + 1 by the counted hall table: both servers fitted, and both ends up by the table
 pub ups-counted : (h : Hall) → 0 < h .n → (table : List ℕ) (j x : ℕ)

@@ -18,7 +18,7 @@ use Rattle.ports.specs.Answers.{partRefusal, partOf}
 use Rattle.ports.proofs.Parts.{Sound, sound}
 use Rattle.ports.proofs.Runs.{length-run}
 use Rattle.counted.specs.Counted.{counted}
-use Rattle.counted.proofs.Counted.{counted-length}
+use Rattle.counted.proofs.Counted.{counted-sound}
 use Rattle.ends.specs.Tables.{farCount, stepLength, farAt, stepTable}
 use Rattle.ends.specs.Answers.{ofStepTable}
 
@@ -34,10 +34,6 @@ one-behind room a b l =
     ∙ put-put room 0 a b w
     ∙ sym (room-long room 0 (a ++ b) k)
     ∙ room-start room (a ++ b) m
-
--- a hall table as its codes count is as sound
-pub counted-sound : (h : Hall) (table : List ℕ) (u : ℕ) → Sound h table u → Sound h (counted h 0 table) u
-counted-sound h table u s = record { is-valid = s .is-valid; long = counted-length h 0 table ∙ s .long; below = s .below }
 
 module _ (h : Hall) (table : List ℕ) (u : ℕ) where
   -- the length of a step's table

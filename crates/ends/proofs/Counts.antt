@@ -26,12 +26,12 @@ use Rattle.ports.proofs.Parts.{Sound}
 use Rattle.plan.specs.Answers.{fitted, isFitted}
 use Rattle.plan.proofs.Asks.{told-fitted}
 use Rattle.counted.specs.Counted.{portFitted, countedAt, counted}
-use Rattle.counted.proofs.Counted.{cell-fitted, port-link, counted-code, counted-part}
+use Rattle.counted.proofs.Counted.{cell-fitted, port-link, counted-code, counted-sound, counted-part}
 use Rattle.local.specs.Local.{cellSize, firstOf}
 use Rattle.ends.specs.Tables.{levels, farCount, stepLength, farCode, farAt, stepTable}
 use Rattle.ends.specs.Filling.{spread, layered, portCode, runCode, runCounted, tableCounted}
 use Rattle.ends.proofs.Spread.{spread-ahead, spread-cong, layered-later, put-behind, layered-all}
-use Rattle.ends.proofs.Answers.{counted-sound, part-length, length-step}
+use Rattle.ends.proofs.Answers.{part-length, length-step}
 
 module _ (h : Hall) (pos : 0 < h .n) where
   -- a port of a level above 1 counts where its far server is fitted, as the call tells

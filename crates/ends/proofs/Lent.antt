@@ -14,7 +14,7 @@ use Rattle.hall.specs.declared.Hall.{Hall}
 use Rattle.hall.specs.Cells.{cell, same, neighbour}
 use Rattle.hall.proofs.Growth.{Valid}
 use Rattle.ports.specs.Codes.{isUp, codeOf, up, cellLength, SameUps}
-use Rattle.ports.proofs.Runs.{take-agrees}
+use Rattle.ports.proofs.Runs.{take-agrees, drop-agrees}
 use Rattle.local.specs.Local.{cellSize, firstOf, counting}
 use Rattle.local.proofs.Uids.{first-shared}
 use Rattle.plan.specs.Answers.{fitted}
@@ -28,10 +28,6 @@ unfolding lentCounted
 lent-shared h lent x y e = rw (first-shared h x y e)
 
 -- tables with code 1 at the same places count so
-drop-agrees : (m : ℕ) (a b : List ℕ) → SameUps a b → SameUps (drop m a) (drop m b)
-unfolding SameUps
-drop-agrees m a b s v = rw (getD-drop {A = ℕ} m a v 0, getD-drop {A = ℕ} m b v 0) (s (m + v))
-
 pub lent-ups : (h : Hall) (me : ℕ) (a b : List ℕ) → length a ≡ length b → SameUps a b → SameUps (lentCounted h me a) (lentCounted h me b)
 unfolding lentCounted cellPart
 lent-ups h me a b e s =

@@ -24,7 +24,7 @@ use Rattle.plan.specs.Answers.{fitted, isFitted}
 use Rattle.plan.proofs.Halls.{fitted-same, fitted-full}
 use Rattle.plan.proofs.Asks.{told-fitted}
 use Rattle.counted.specs.Counted.{counted}
-use Rattle.counted.proofs.Counted.{counted-length, counted-part, cell-same, cell-fitted}
+use Rattle.counted.proofs.Counted.{counted-sound, counted-part, cell-same, cell-fitted}
 use Rattle.counted.proofs.Links.{ups-counted}
 use Rattle.local.proofs.Asks.{bytes-are}
 use Rattle.ends.specs.Tables.{levels, farCount, stepLength, cellPart, farPlace, farIn}
@@ -54,7 +54,7 @@ lent-shared h true table x y e = step-shared h (counted h 0 table) x y e
 
 -- the hall table as its codes count is a hall table
 counted-known : (h : Hall) (table : List ℕ) (me : ℕ) → Here h true table me → parts.Sound h (counted h 0 table) me
-counted-known h table me a = record { is-valid = a .sound; long = counted-length h 0 table ∙ a .long; below = a .fits }
+counted-known h table me a = counted-sound h table me (known h table me a)
 
 -- the codes of the own DCell(b), as they count
 pub counting-own : (h : Hall) (whole : Bool) (table : List ℕ) (me : ℕ) → Here h whole table me → counting h me (cellPart h (held h whole table me)) ≡ cellPart h (lent h whole table me)

@@ -11,8 +11,14 @@ use borrow.Author.Tests.{leb-true, leb-false, eqb-true, eq-eqb, le-leb}
 use Rattle.combine.proofs.Tests.{cases, both-right}
 use Rattle.hall.specs.Cells.{t}
 use Rattle.hall.specs.Halls.{most-n, top, largest, Sized, racks, capacity, nFits, kFits, countFits}
+use Rattle.hall.specs.Answers.{racksOf}
 use Rattle.hall.proofs.Cells.{t-pos}
 use Rattle.hall.proofs.Growth.{t-fits, t-up}
+
+-- the DCell1s that a hall can have, as the call works them out
+pub racks-known : (n k r : ℕ) → nFits n ≡ true → kFits n k ≡ true → r ≡ racksOf n k → r ≡ capacity n k
+unfolding racksOf
+racks-known n k r p q e = e ∙ rw (p, q)
 
 module _ (n : ℕ) where
   pub racks-pos : (m : ℕ) → 0 < racks n m

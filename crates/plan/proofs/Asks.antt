@@ -14,7 +14,7 @@ use Rattle.hall.specs.Cells.{t}
 use Rattle.hall.specs.Halls.{largest, Sized, capacity, nFits, kFits, countFits, valid, isFull, servers}
 use Rattle.hall.specs.Answers.{sizeOf, racksOf}
 use Rattle.hall.proofs.Growth.{Valid, valid-known, size-at}
-use Rattle.hall.proofs.Racks.{count-most, capacity-low, racks-servers}
+use Rattle.hall.proofs.Racks.{racks-known, count-most, capacity-low, racks-servers}
 use Rattle.plan.specs.Plan.{rank, prefixOf}
 use Rattle.plan.specs.Answers.{fitted, firstFitted, isFitted, asksPlan}
 use Rattle.plan.proofs.Halls.{fitted-full}
@@ -26,11 +26,6 @@ by-tests false k f = refl
 by-tests true false f = refl
 by-tests true true true = refl
 by-tests true true false = refl
-
--- the DCell1s that a hall of these numbers can have
-pub racks-known : (n k r : ℕ) → nFits n ≡ true → kFits n k ≡ true → r ≡ racksOf n k → r ≡ capacity n k
-unfolding racksOf
-racks-known n k r p q e = e ∙ rw (p, q)
 
 pub sized-known : (n k : ℕ) → 2 ≤ n → Sized n k → (nFits n ≡ true) × (kFits n k ≡ true)
 unfolding nFits kFits

@@ -6,11 +6,11 @@ use Prim.Native.Nat.{ℕ, zero, suc, _+_, _*_, _/_, _%_, _≤_, _<_}
 use mathlib.Core.Logic.{⊎-elim}
 use native.Mathlib.Nat.{mod-lt, div-add-mod', div-eq-of-lt, eq-or-lt-of-le}
 use native.Mathlib.Omega.{arith}
-use lib.Dec.{eqb}
+use lib.Dec.{eqb, leb}
 use lib.Arith.{digits-div}
-use borrow.Author.Tests.{eqb-true, eq-eqb, ne-eqb}
+use borrow.Author.Tests.{eqb-true, eq-eqb, ne-eqb, leb-true, leb-false}
 use Rattle.combine.specs.Tests.{both, either, anyBelow}
-use Rattle.combine.proofs.Tests.{never, both-ways, both-left, both-right, both-true, both-swap, either-cases, either-true, any-in, any-some}
+use Rattle.combine.proofs.Tests.{cases, never, both-ways, both-left, both-right, both-true, both-swap, either-true, either-left, either-right, either-cases, any-in, any-some}
 use Rattle.hall.specs.declared.Hall.{Hall}
 use Rattle.hall.specs.Cells.{t, cell, same, neighbour}
 use Rattle.hall.proofs.Cells.{same-eq, eq-same, same-sym, same-up, t-pos, neighbour-neighbour, neighbour-stays}
@@ -18,14 +18,25 @@ use Rattle.ports.specs.Codes.{up, SameUps}
 use Rattle.ports.specs.Links.{onSwitch, bothUp, wired, joined, switchHas, touched}
 use Rattle.ports.proofs.Tables.{up-agrees}
 
-either-left : (a b : Bool) → a ≡ true → either a b ≡ true
-either-left a b e = rw e
-
-either-right : (a b : Bool) → b ≡ true → either a b ≡ true
-either-right a b e = rw e (either-true a)
-
 eqb-swap : (a b : ℕ) → eqb a b ≡ eqb b a
 eqb-swap a b = both-ways (eqb a b) (eqb b a) (λ e. eq-eqb b a (sym (eqb-true a b e))) (λ e. eq-eqb a b (sym (eqb-true b a e)))
+
+-- a link of a level is one of each higher level: over a switch, and between neighbours
+wired-more : (n l m x y : ℕ) → l ≤ m → wired n l x y ≡ true → wired n m x y ≡ true
+unfolding wired
+wired-more n l zero x y h e = let z : l ≡ 0 = omega arith in rw z at e
+wired-more n l (suc m) x y h e =
+    cases (leb l m)
+    (λ q. rw (wired-more n l m x y (leb-true l m q) e))
+    (λ q. let z : l ≡ suc m = omega (arith, leb-false l m q) in rw z at e)
+
+pub wired-switch : (n l x y : ℕ) → same n 0 x y ≡ true → (x ≡ y → ⊥) → wired n l x y ≡ true
+unfolding wired onSwitch
+wired-switch n l x y e d = wired-more n 0 l x y (omega arith) (both-true (same n 0 x y) (not (eqb x y)) e (ap not (ne-eqb x y d)))
+
+pub wired-link : (n j l x y : ℕ) → j < l → neighbour n j x ≡ y → wired n l x y ≡ true
+unfolding wired
+wired-link n j l x y h e = wired-more n (suc j) l x y h (rw (eq-eqb (neighbour n j x) y e) (either-true (wired n j x y)))
 
 -- whoever shares a DCell of level i with a server of the first one is in the first one
 pub same-below : (n i x y : ℕ) → 0 < n → same n i x y ≡ true → x < t n i → y < t n i

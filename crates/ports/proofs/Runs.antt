@@ -57,7 +57,7 @@ take-agrees m a b s v =
     let l = ltb-false v m e in
     rw (List·getD-eq-default {A = ℕ} (take m a) 0 {n = v} (omega (arith, length-take m a)), List·getD-eq-default {A = ℕ} (take m b) 0 {n = v} (omega (arith, length-take m b))))
 
-drop-agrees : (m : ℕ) (a b : List ℕ) → SameUps a b → SameUps (drop m a) (drop m b)
+pub drop-agrees : (m : ℕ) (a b : List ℕ) → SameUps a b → SameUps (drop m a) (drop m b)
 unfolding SameUps
 drop-agrees m a b s v = rw (getD-drop {A = ℕ} m a v 0, getD-drop {A = ℕ} m b v 0) (s (m + v))
 

@@ -13,7 +13,7 @@ use Rattle.hall.specs.declared.Hall.{Hall}
 use Rattle.hall.specs.Halls.{hallOf, capacity, nFits, kFits, bFits, countFits, isFull, valid}
 use Rattle.hall.specs.Refusals.{bad-hall, bad-length}
 use Rattle.hall.specs.Answers.{racksOf}
-use Rattle.hall.proofs.Racks.{capacity-low, count-most, full-fits}
+use Rattle.hall.proofs.Racks.{racks-known, capacity-low, count-most, full-fits}
 use Rattle.words.specs.Words.{value}
 use Rattle.words.proofs.Words.{value-one}
 use Rattle.sheet.specs.declared.Field.the-variants.{Value}
@@ -57,11 +57,6 @@ module _ (n k v : ℕ) where
       (λ q. rw (eqb-true v (capacity n k) q) (full-fits n k))
       (λ q. part-fits q))
       (λ e. cases (eqb v (capacity n k)) (λ q. rw q) (λ q. rw q (fits-part e q)))
-
--- the DCell1s that a hall can have, as a call works them out
-pub racks-are : (n k r : ℕ) → nFits n ≡ true → kFits n k ≡ true → r ≡ racksOf n k → r ≡ capacity n k
-unfolding racksOf
-racks-are n k r p q e = e ∙ rw (p, q)
 
 -- what is read for the DCell1s fitted, by the first count
 module _ (s : List ℕ) (first n k at : ℕ) where
@@ -119,7 +114,7 @@ module _ (s : List ℕ) where
   unfolding fittedIn
   hall-full head e r d =
       let f = hall-fields (hallIn s) (head .hall) in
-      let q = racks-are (value s 4 1) (value s 5 1) r (f .0) (f .1) (rw (value-one s 4, value-one s 5) d) in
+      let q = racks-known (value s 4 1) (value s 5 1) r (f .0) (f .1) (rw (value-one s 4, value-one s 5) d) in
       rw (ne-eqb (value s 0 4) part-section e, q, value-one s 4, value-one s 5, value-one s 6)
 
   -- a section of 7 bytes is there

@@ -12,7 +12,8 @@ use Rattle.hall.specs.Answers.{racksOf}
 use Rattle.hall.proofs.Growth.{sized-below}
 use Rattle.plan.specs.Plan.{index, inside}
 use Rattle.plan.specs.Answers.{prefixAt}
-use Rattle.plan.proofs.Asks.{racks-known, sized-known}
+use Rattle.hall.proofs.Racks.{racks-known}
+use Rattle.plan.proofs.Asks.{sized-known}
 use Rattle.plan.proofs.Filled.{filled, filled-all}
 use Rattle.hall.proofs.Racks.{fit, one-fits, one-is}
 use Rattle.plan.proofs.prefix_up_to.Statement.{statement}

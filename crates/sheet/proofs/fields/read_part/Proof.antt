@@ -7,7 +7,7 @@ use Rattle.combine.specs.Tests.{both}
 use Rattle.hall.specs.Halls.{capacity}
 use Rattle.hall.specs.Refusals.{bad-hall}
 use Rattle.sheet.proofs.Reading.{missed, failed, passed}
-use Rattle.sheet.proofs.Heads.{racks-are}
+use Rattle.hall.proofs.Racks.{racks-known}
 use borrow.Author.Needs.{needs}
 use Rattle.sheet.proofs.fields.read_part.Statement.{statement}
 use Rattle.sheet.proofs.fields.read_part.Tie as tie
@@ -50,7 +50,7 @@ returns-3 c =
     let s = c .before .before .before .before .before .before .before .before in
     let a = s .args in
     let f = c .before .before .before .before .before .before .read-word in
-    let r = racks-are (a .n) (a .k) _ (s .pre .2) (s .pre .3) (c .before .racks-of .ensures) in
+    let r = racks-known (a .n) (a .k) _ (s .pre .2) (s .pre .3) (c .before .racks-of .ensures) in
     failed _ 4 _ _ _ (f .result) (f .ensures) (sound (a .n) (a .k)) bad-hall (c .before .before .before .before .word .given .1) (rw (le-leb 2 (a .k) (c .before .before .if1 .left), ← r) (le-ltb _ _ (c .if2 .taken)))
 
 returns-4 : tie.Need-returns-4
@@ -58,7 +58,7 @@ returns-4 c =
     let s = c .before .before .before .before .before .before .before .before in
     let a = s .args in
     let f = c .before .before .before .before .before .before .read-word in
-    let r = racks-are (a .n) (a .k) _ (s .pre .2) (s .pre .3) (c .before .racks-of .ensures) in
+    let r = racks-known (a .n) (a .k) _ (s .pre .2) (s .pre .3) (c .before .racks-of .ensures) in
     passed _ 4 _ _ _ (f .result) (f .ensures) (sound (a .n) (a .k)) bad-hall (c .before .before .before .before .word .given .1) (rw (le-leb 2 (a .k) (c .before .before .if1 .left), ← r) (lt-ltb _ _ (c .if2 .left)))
 
 pub read-part-spec : {M : Type 1} → statement M
