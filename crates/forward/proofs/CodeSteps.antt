@@ -36,7 +36,7 @@ use Rattle.forward.specs.Packets.{drop-ttl, drop-route, drop-retry, drop
 use Rattle.forward.specs.Seen.{Seen}
 use Rattle.forward.specs.Proxies.{isCandidate, choice}
 use Rattle.forward.specs.Steps.{Reroute, reachable, across, from4, firstLevel, rerouted, setProxy, rerouteOn, stepFrom, stepOn}
-use Rattle.forward.specs.Inside.{Here, Ahead, Sound, Standing, Stopped, Placed, wayTo, wayOver, outlookBy, outlookOf, turnBy, turnOf}
+use Rattle.forward.specs.Inside.{Here, Ahead, Sound, Standing, Stopped, Placed, onward, wayTo, wayOver, outlookBy, outlookOf, turnBy, turnOf}
 use Rattle.forward.proofs.Passes.{step-passes}
 use Rattle.forward.proofs.Steps.{last-pass}
 use Rattle.forward.proofs.Chosen.{choice-at}
@@ -303,74 +303,87 @@ module _ {whole : Bool} (h : Hall) (table : List ℕ) (me : ℕ) (p : Packet) wh
       pub stands-again : turnOf h s me link p arrived ≡ Again r → Standing h whole table me r
       stands-again = by-link link refl
 
--- a packet that nothing refuses, tidied
-module _ (h : Hall) (packet p : Packet) (is : p ≡ tidied packet) where
-  pub tidied-sound : Sound h packet → Sound h p
+-- a packet that nothing refuses, tidied, and as it goes on
+module _ (packet : Packet) where
+  pub tidied-dst : tidied packet .dst ≡ packet .dst
+  tidied-dst = cases (packet .«has_proxy») (λ e. rw e) (λ e. rw e)
+
+  tidied-ttl : tidied packet .ttl ≡ packet .ttl
+  tidied-ttl = cases (packet .«has_proxy») (λ e. rw e) (λ e. rw e)
+
+  tidied-arrived : (me : ℕ) → isArrived me (tidied packet) ≡ isArrived me packet
+  unfolding isArrived
+  tidied-arrived me = cases (packet .«has_proxy») (λ e. rw e) (λ e. rw e)
+
+  -- its goal on the way does not depend on the number of a proxy that it has not
+  pub goal-onward : (arrived : Bool) → goal (onward arrived packet) ≡ goal (onward arrived (tidied packet))
+  unfolding goal
+  goal-onward true = sym tidied-dst
+  goal-onward false = cases (packet .«has_proxy») (λ e. rw e) (λ e. rw e)
+
+module _ (h : Hall) (packet : Packet) where
+  pub tidied-sound : Sound h packet → Sound h (tidied packet)
   tidied-sound a =
       cases (packet .«has_proxy»)
-      (λ e. let q : p ≡ packet = is ∙ rw e in rw q a)
-      (λ e. let q : p ≡ cleared packet = is ∙ rw e in rw q (record {
+      (λ e. let q : tidied packet ≡ packet = rw e in rw q a)
+      (λ e. let q : tidied packet ≡ cleared packet = rw e in rw q (record {
         dst-fits = a .dst-fits;
         proxy-fits = λ z. absurd (let w : _≡_ {A = ℕ} 0 1 = cc in omega arith);
         retry-fits = a .retry-fits;
       }))
 
-  module _ {whole : Bool} (table : List ℕ) (me : ℕ) (a : Here h whole table me) (b : Sound h packet) (far : me ≡ p .dst → ⊥) (live : p .ttl ≡ 0 → ⊥) where
-    pub stands-arrived : (q : Packet) → q ≡ cleared p → Standing h whole table me q
+  module _ {whole : Bool} (table : List ℕ) (me : ℕ) (a : Here h whole table me) (b : Sound h packet) (far : me ≡ packet .dst → ⊥) (live : packet .ttl ≡ 0 → ⊥) where
+    away : tidied packet .dst ≡ me → ⊥
+    away z = far (sym z ∙ tidied-dst packet)
+
+    stands-arrived : Standing h whole table me (cleared (tidied packet))
     unfolding goal
-    stands-arrived q e =
+    stands-arrived =
         let c = tidied-sound b in
-        rw e (record {
+        record {
           here = a;
           packet = record { dst-fits = c .dst-fits; proxy-fits = λ z. absurd (let w : _≡_ {A = ℕ} 0 1 = cc in omega arith); retry-fits = c .retry-fits };
-          dst-apart = λ z. far (sym z);
-          goal-apart = λ z. far (sym z);
-          alive = omega arith;
-        })
+          dst-apart = away;
+          goal-apart = away;
+          alive = omega (arith, tidied-ttl packet);
+        }
 
-    goal-far : isArrived me p ≡ false → goal p ≡ me → ⊥
+    goal-far : isArrived me packet ≡ false → goal (tidied packet) ≡ me → ⊥
     unfolding goal isArrived
     goal-far e =
-        cases (p .«has_proxy»)
-        (λ q. rw q (λ z. let w : eqb (p .proxy) me ≡ false = rw q at e in never (eq-eqb (p .proxy) me z) w))
+        cases (packet .«has_proxy»)
+        (λ q. rw q (λ z. let w : eqb (packet .proxy) me ≡ false = rw q at e in never (eq-eqb (packet .proxy) me z) w))
         (λ q. rw q (λ z. far (sym z)))
 
-    pub stands-set-out : (arrived : Bool) → arrived ≡ isArrived me p → arrived ≡ false → Standing h whole table me p
-    stands-set-out arrived e f = record {
-      here = a;
-      packet = tidied-sound b;
-      dst-apart = λ z. far (sym z);
-      goal-apart = goal-far (sym e ∙ f);
-      alive = omega arith;
-    }
+    stands-set-out : isArrived me packet ≡ false → Standing h whole table me (tidied packet)
+    stands-set-out e =
+        record { here = a; packet = tidied-sound b; dst-apart = away; goal-apart = goal-far e; alive = omega (arith, tidied-ttl packet) }
+
+    pub stands-onward : (arrived : Bool) → arrived ≡ isArrived me packet → Standing h whole table me (onward arrived (tidied packet))
+    stands-onward true e = stands-arrived
+    stands-onward false e = stands-set-out (sym e)
 
   -- 1 to 3
   module _ (s : Seen) (me : ℕ) (o : Step) where
-    whole : stepOn h s me p ≡ stepOn h s me (tidied packet)
-    whole = ap (stepOn h s me) is
-
-    delivers : me ≡ p .dst → stepOn h s me p ≡ ended delivered p
+    pub step-delivers : me ≡ packet .dst → o ≡ ended delivered (tidied packet) → o ≡ stepOn h s me (tidied packet)
     unfolding stepOn
-    delivers e = rw (eq-eqb me (p .dst) e)
+    step-delivers e q = q ∙ rw (eq-eqb me (tidied packet .dst) (e ∙ sym (tidied-dst packet)))
 
-    pub step-delivers : me ≡ p .dst → o ≡ ended delivered p → o ≡ stepOn h s me (tidied packet)
-    step-delivers e q = q ∙ sym (delivers e) ∙ whole
+    module _ (far : me ≡ packet .dst → ⊥) where
+      away-from : eqb me (tidied packet .dst) ≡ false
+      away-from = ne-eqb me (tidied packet .dst) (λ z. far (z ∙ tidied-dst packet))
 
-    module _ (far : me ≡ p .dst → ⊥) where
-      dies : p .ttl ≡ 0 → stepOn h s me p ≡ ended drop-ttl p
+      pub step-dies : packet .ttl ≡ 0 → o ≡ ended drop-ttl (tidied packet) → o ≡ stepOn h s me (tidied packet)
       unfolding stepOn
-      dies z = rw (ne-eqb me (p .dst) far, eq-eqb (p .ttl) 0 z)
+      step-dies z q = q ∙ rw (away-from, eq-eqb (tidied packet .ttl) 0 (tidied-ttl packet ∙ z))
 
-      pub step-dies : p .ttl ≡ 0 → o ≡ ended drop-ttl p → o ≡ stepOn h s me (tidied packet)
-      step-dies z q = q ∙ sym (dies z) ∙ whole
-
-      module _ (live : p .ttl ≡ 0 → ⊥) (arrived : Bool) (e : arrived ≡ isArrived me p) where
-        goes : stepOn h s me p ≡ pick arrived (stepFrom h s me p (cleared p) true) (stepFrom h s me p p false)
+      module _ (live : packet .ttl ≡ 0 → ⊥) where
+        by-arrived : (arrived : Bool) → arrived ≡ isArrived me (tidied packet)
+            → stepFrom h s me (tidied packet) (onward arrived (tidied packet)) arrived ≡ stepOn h s me (tidied packet)
         unfolding stepOn
-        goes = rw (ne-eqb me (p .dst) far, ne-eqb (p .ttl) 0 live, ← e)
+        by-arrived true e = rw (away-from, ne-eqb (tidied packet .ttl) 0 (λ z. live (sym (tidied-ttl packet) ∙ z)), ← e)
+        by-arrived false e = rw (away-from, ne-eqb (tidied packet .ttl) 0 (λ z. live (sym (tidied-ttl packet) ∙ z)), ← e)
 
-        pub step-arrives : arrived ≡ true → (q : Packet) → q ≡ cleared p → o ≡ stepFrom h s me p q true → o ≡ stepOn h s me (tidied packet)
-        step-arrives t q f g = g ∙ ap (λ (x : Packet). stepFrom h s me p x true) f ∙ sym (goes ∙ rw t) ∙ whole
-
-        pub step-sets-out : arrived ≡ false → o ≡ stepFrom h s me p p false → o ≡ stepOn h s me (tidied packet)
-        step-sets-out t g = g ∙ sym (goes ∙ rw t) ∙ whole
+        pub step-goes-on : (arrived : Bool) → arrived ≡ isArrived me packet → o ≡ stepFrom h s me (tidied packet) (onward arrived (tidied packet)) arrived
+            → o ≡ stepOn h s me (tidied packet)
+        step-goes-on arrived e g = g ∙ by-arrived arrived (e ∙ sym (tidied-arrived packet me))

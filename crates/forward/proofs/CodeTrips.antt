@@ -67,7 +67,7 @@ module _ (h : Hall) (table : List ℕ) (me : ℕ) (p : Packet) (a : Departing h 
 
       pub departs-again : Departing h table (o .next) (o .packet)
       departs-again =
-          let s = tidied-sound h p (tidied p) refl (a .packet) in
+          let s = tidied-sound h p (a .packet) in
           let f = step-forwards h (sight h table me) (λ x w. linked h (cellPart h (stepTable h table me)) x w ≡ true) (seen-links h (stepTable h table me) (valid-known h (a .sound)))
           (a .sound) me (tidied p) (a .fits) (record { dst-in = s .dst-fits; proxy-in = s .proxy-fits }) forwards in
           let g = step-sends h table me p forwards in

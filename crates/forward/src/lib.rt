@@ -22,7 +22,7 @@ ghost use Rattle.forward.specs.Proxies.{choice};
 ghost use Rattle.forward.specs.Steps.{stepFrom, rerouteOn, step};
 ghost use Rattle.forward.specs.Journeys.{trip};
 ghost use Rattle.forward.specs.Answers.{most-passed, refusedStep, stepOf, journeyFrom, refusedJourney, journeyOf};
-ghost use Rattle.forward.specs.Inside.{Here, Target, Ahead, Standing, Stopped, Above, Placed, Crossed, Servers, Sound, Departing, held, lent, wayTo, wayOver, outlookOf, turnOf, asksBelow};
+ghost use Rattle.forward.specs.Inside.{Here, Target, Ahead, Standing, Stopped, Above, Placed, Crossed, Servers, Sound, Departing, held, lent, onward, wayTo, wayOver, outlookOf, turnOf, asksBelow};
 use crate::endings::DELIVERED;
 use crate::endings::DROP_PROXY;
 use crate::endings::DROP_RETRY;
@@ -116,6 +116,16 @@ fn tidied(p: Packet) -> Packet
         return p;
     }
     cleared(p)
+}
+
+// The packet as it goes on: without its proxy where it has arrived there.
+fn onward(p: Packet, arrived: bool) -> Packet
+    ensures { λ r. ⌜ r ≡ onward arrived p ⌝ }
+{
+    if arrived {
+        return cleared(p);
+    }
+    p
 }
 
 // The packet with a new proxy.
@@ -221,12 +231,23 @@ fn one_more(o: Step) -> Step
     }
 }
 
+// The servers of a DCell(b), without asking the hall again. Where a step searches for a proxy the hall is asked: that takes less stack.
+fn cell_size(h: Hall) -> u32
+    requires { ⌜ valid h ≡ true ⌝ }
+    ensures { λ r. ⌜ r ≡ cellSize h ⌝ }
+{
+    if h.b == 0 {
+        return h.n;
+    }
+    (h.n + 1) * h.n
+}
+
 // Whether two servers share a DCell(b).
 fn share_cell(h: Hall, x: u32, y: u32) -> bool
     requires { ⌜ valid h ≡ true ⌝ }
     ensures { λ r. ⌜ r ≡ same (h .n) (h .b) x y ⌝ }
 {
-    let count = hall::size_of(h, h.b);
+    let count = cell_size(h);
     x / count == y / count
 }
 
@@ -242,11 +263,12 @@ fn own_part(h: Hall, whole: bool, table: &[u8], me: u32) -> &[u8]
     requires { ⌜ Here h whole (now table) me ⌝ }
     ensures { λ r. ⌜ now r ≡ cellPart h (held h whole (now (table .entry)) me) ⌝ }
 {
-    let cell = hall::size_of(h, h.b);
-    let bytes = bytes_of(cell, h.k);
     if !whole {
-        return &table[0..bytes];
+        let lent = bytes_of(hall::size_of(h, h.b), h.k);
+        return &table[0..lent];
     }
+    let cell = cell_size(h);
+    let bytes = bytes_of(cell, h.k);
     let from = ((me / cell) as usize) * bytes;
     let to = from + bytes;
     &table[from..to]
@@ -258,7 +280,7 @@ fn far_place(h: Hall, level: u32, place: u32) -> usize
     ensures { λ r. ⌜ r ≡ farPlace h place level ⌝ }
 {
     let far = place * (h.k - h.b) + (level - h.b - 1);
-    bytes_of(hall::size_of(h, h.b), h.k) + (far as usize)
+    bytes_of(cell_size(h), h.k) + (far as usize)
 }
 
 // Whether both ends of the link of a level above b at a place of the cell are up, by the table that a step is lent.
@@ -279,7 +301,7 @@ fn is_up_over(h: Hall, whole: bool, table: &[u8], level: u32, near: u32, far: u3
     ensures { λ r. ⌜ r ≡ usable h (held h whole (now (table .entry)) near) level (placeOf h near) ⌝ }
 {
     if !whole {
-        return is_open(h, table, level, near % hall::size_of(h, h.b));
+        return is_open(h, table, level, near % cell_size(h));
     }
     if !ports::is_up(h, table, near, level) {
         return false;
@@ -406,10 +428,11 @@ fn is_up_at(h: Hall, whole: bool, table: &[u8], me: u32, level: u32, place: u32)
     if !whole {
         return is_open(h, table, level, place);
     }
-    if !ports::is_up(h, table, uid_at(h, me, place), level) {
+    let near = uid_at(h, me, place);
+    if !ports::is_up(h, table, near, level) {
         return false;
     }
-    ports::is_up(h, table, proxy_of(h, me, place, level), level)
+    ports::is_up(h, table, cells::neighbour_of(h, near, level).uid, level)
 }
 
 // Whether the link of a level above b at a place of the DCell(b) around `me` is usable: its far server is looked for last.
@@ -594,25 +617,31 @@ fn reroute(
     }
 }
 
-// The step of a packet that nothing refuses.
+// The step of a packet that nothing refuses; one that has a way before it goes without a call into the cycle.
 fn step_at(h: Hall, whole: bool, table: &[u8], me: u32, packet: Packet) -> Step
     requires { ⌜ Here h whole (now table) me × Sound h packet ⌝ }
     ensures { λ r. ⌜ r ≡ step h (lent h whole (now (table .entry)) me) me packet ⌝ }
 {
+    if me == packet.dst {
+        return ended(DELIVERED, tidied(packet));
+    }
+    if packet.ttl == 0 {
+        return ended(DROP_TTL, tidied(packet));
+    }
+    let arrived = is_arrived(me, packet);
+    let outlook = look(
+        h,
+        whole,
+        table,
+        me,
+        packet.dst,
+        goal(onward(packet, arrived)),
+    );
+    if let Outlook::Next { uid } = outlook {
+        return sent(uid, onward(tidied(packet), arrived));
+    }
     let p = tidied(packet);
-    if me == p.dst {
-        return ended(DELIVERED, p);
-    }
-    if p.ttl == 0 {
-        return ended(DROP_TTL, p);
-    }
-    if is_arrived(me, p) {
-        let q = cleared(p);
-        let outlook = look(h, whole, table, me, p.dst, goal(q));
-        return step_from(h, whole, table, me, p, q, true, outlook);
-    }
-    let outlook = look(h, whole, table, me, p.dst, goal(p));
-    step_from(h, whole, table, me, p, p, false, outlook)
+    step_from(h, whole, table, me, p, onward(p, arrived), arrived, outlook)
 }
 
 // Whether the packet's proxy, if it has one, is among so many servers.
@@ -689,7 +718,7 @@ pub fn forward_step(h: Hall, uid: u32, packet: Packet, table: &[u8]) -> Step
     if servers == 0 {
         return refused_step(BAD_HALL);
     }
-    let cell = hall::size_of(h, h.b);
+    let cell = cell_size(h);
     let number = refused(servers, step_bytes(h, cell), table, uid, packet);
     if number != 0 {
         return refused_step(number);

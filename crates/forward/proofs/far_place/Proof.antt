@@ -3,7 +3,6 @@ use mathlib.Core.Path.{_≡_, _∙_}
 use native.Mathlib.Omega.{arith}
 use borrow.Author.Needs.{needs}
 use Rattle.ports.specs.Codes.{cellLength}
-use Rattle.local.proofs.Sizes.{cell-size}
 use Rattle.local.proofs.Asks.{bytes-are}
 use Rattle.ends.proofs.Codes.{far-few, cell-bytes}
 use Rattle.forward.proofs.CodeTables.{far-first, far-at}
@@ -25,8 +24,8 @@ sub-far-3 c = search needs
 add-far : tie.Need-add-far
 add-far c = let a = c .before .before .pre in omega (arith, far-few _ (a .sound), far-first _ _ _ a)
 
-size-of-requires : tie.Need-size-of-requires
-size-of-requires c κs = search needs
+cell-size-requires : tie.Need-cell-size-requires
+cell-size-requires c κs = c .before .before .pre .sound
 
 bytes-of-requires : tie.Need-bytes-of-requires
 bytes-of-requires c κs = search needs
@@ -34,7 +33,7 @@ bytes-of-requires c κs = search needs
 long : (c : tie.After-bytes-of) → c .bytes-of .result ≡ cellLength (c .before .before .before .before .args .h) (c .before .before .before .before .args .h .b)
 long c =
     let a = c .before .before .before .before in
-    c .bytes-of .ensures ∙ bytes-are (a .args .h) _ (cell-size _ _ (a .pre .sound) (c .before .size-of .ensures))
+    c .bytes-of .ensures ∙ bytes-are (a .args .h) _ (c .before .cell-size .ensures)
 
 cast-result : tie.Need-cast-result
 cast-result c = let a = c .before .before .before .before .pre in omega (arith, far-few _ (a .sound), far-first _ _ _ a)
@@ -54,7 +53,7 @@ far-place-spec =
     sub-far-2
     sub-far-3
     add-far
-    size-of-requires
+    cell-size-requires
     bytes-of-requires
     cast-result
     add-result

@@ -6,8 +6,6 @@ use borrow.Author.Needs.{needs}
 use Rattle.hall.specs.Halls.{asksHall}
 use Rattle.hall.specs.Refusals.{refusal}
 use Rattle.hall.proofs.Growth.{some-servers}
-use Rattle.local.specs.Local.{cellSize}
-use Rattle.local.proofs.Sizes.{cell-size}
 use Rattle.ends.specs.Tables.{stepLength}
 use Rattle.forward.specs.Answers.{asksLent, asksPacket}
 use Rattle.forward.proofs.CodeAsks.{no-hall, in-hall, step-refused, step-answered, step-sound}
@@ -28,14 +26,11 @@ returns c =
     (no-hall (a .h) (s .result) (s .ensures) (stepLength (a .h)) (a .table .now) (a .uid) (a .packet) (c .before .if1 .taken))
     (λ z. omega arith) _ (c .refused-step .ensures)
 
-size-of-requires : tie.Need-size-of-requires
-size-of-requires c κs = search needs
-
-sized : (c : tie.After-size-of) → c .size-of .result ≡ cellSize (c .before .before .before .before .args .h)
-sized c = cell-size _ _ (some-servers _ _ (c .before .before .servers-of .ensures) (c .before .if1 .left)) (c .size-of .ensures)
+cell-size-requires : tie.Need-cell-size-requires
+cell-size-requires c κs = some-servers _ _ (c .before .servers-of .ensures) (c .if1 .left)
 
 step-bytes-requires : tie.Need-step-bytes-requires
-step-bytes-requires c κs = (some-servers _ _ (c .before .before .servers-of .ensures) (c .before .if1 .left), sized c)
+step-bytes-requires c κs = (some-servers _ _ (c .before .before .servers-of .ensures) (c .before .if1 .left), c .cell-size .ensures)
 
 refused-requires : tie.Need-refused-requires
 refused-requires c κs = search needs
@@ -75,7 +70,7 @@ forward-step-spec =
     servers-of-requires
     refused-step-requires
     returns
-    size-of-requires
+    cell-size-requires
     step-bytes-requires
     refused-requires
     refused-step-requires-2

@@ -2,6 +2,7 @@
 use mathlib.Core.Path.{_∙_}
 use borrow.Author.Tests.{not-true, not-false}
 use borrow.Author.Needs.{needs}
+use Rattle.forward.proofs.CodeSteps.{proxy-is}
 use Rattle.forward.proofs.CodeTables.{own-length, own-open, place-closed, neighbour-decides}
 use Rattle.forward.proofs.is_up_at.Statement.{statement}
 use Rattle.forward.proofs.is_up_at.Tie as tie
@@ -26,8 +27,8 @@ returns-2 c =
     let f = c .before .is-up in
     place-closed _ _ _ _ _ _ (a .0) (a .1) (not-false _ (c .before .before .before .if1 .left)) _ (c .before .before .uid-at .ensures) _ (f .ensures) (not-true (f .result) (c .if2 .taken))
 
-proxy-of-requires : tie.Need-proxy-of-requires
-proxy-of-requires c κs = let a = c .before .before .before .before .before .pre in record { above = a .1; fits = a .0 .fits }
+neighbour-of-requires : tie.Need-neighbour-of-requires
+neighbour-of-requires c κs = search needs
 
 is-up-requires-2 : tie.Need-is-up-requires-2
 is-up-requires-2 c κs = search needs
@@ -37,7 +38,7 @@ returns-3 c =
     let a = c .before .before .before .before .before .before .before .pre in
     let f = c .before .before .before .is-up in
     neighbour-decides _ _ _ _ _ _ (a .0) (a .1) (not-false _ (c .before .before .before .before .before .if1 .left)) _ (c .before .before .before .before .uid-at .ensures) _ (f .ensures) (not-false (f .result) (c .before .before .if2 .left))
-    _ (c .before .proxy-of .ensures) _ (c .is-up2 .ensures)
+    _ (proxy-is _ _ _ _ (record { above = a .1; fits = a .0 .fits }) _ (c .before .before .before .before .uid-at .ensures) _ (c .before .neighbour-of .ensures)) _ (c .is-up2 .ensures)
 
 pub is-up-at-spec : {M : Type 1} → statement M
 is-up-at-spec =
@@ -48,6 +49,6 @@ is-up-at-spec =
     uid-at-requires
     is-up-requires
     returns-2
-    proxy-of-requires
+    neighbour-of-requires
     is-up-requires-2
     returns-3)

@@ -5,16 +5,16 @@ use borrow.Author.Tests.{not-true, not-false}
 use borrow.Author.Needs.{needs}
 use Rattle.hall.proofs.Growth.{valid-known}
 use Rattle.local.specs.Local.{cellSize}
-use Rattle.local.proofs.Sizes.{cell-size, size-pos, place-under}
+use Rattle.local.proofs.Sizes.{size-pos, place-under}
 use Rattle.forward.proofs.CodeTables.{own-length, own-usable, near-closed, far-decides}
 use Rattle.forward.proofs.is_up_over.Statement.{statement}
 use Rattle.forward.proofs.is_up_over.Tie as tie
 
-size-of-requires : tie.Need-size-of-requires
-size-of-requires c κs = search needs
+cell-size-requires : tie.Need-cell-size-requires
+cell-size-requires c κs = c .before .before .pre .here .sound
 
-sized : (c : tie.After-size-of) → c .size-of .result ≡ cellSize (c .before .before .before .args .h)
-sized c = cell-size _ _ (c .before .before .before .pre .here .sound) (c .size-of .ensures)
+sized : (c : tie.After-cell-size) → c .cell-size .result ≡ cellSize (c .before .before .before .args .h)
+sized c = c .cell-size .ensures
 
 rem-is-open : tie.Need-rem-is-open
 rem-is-open c = omega (arith, size-pos _ (valid-known _ (c .before .before .before .pre .here .sound)), sized c)
@@ -49,7 +49,7 @@ pub is-up-over-spec : {M : Type 1} → statement M
 is-up-over-spec =
     tie.close
     (tie.spec
-    size-of-requires
+    cell-size-requires
     rem-is-open
     is-open-requires
     returns
