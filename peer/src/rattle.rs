@@ -82,14 +82,6 @@ mod foreign {
             table: *const u8,
             codes: usize,
         ) -> u32;
-        pub fn calls_check_place(
-            n: u32,
-            k: u32,
-            b: u32,
-            count: u32,
-            table: *const u8,
-            codes: usize,
-        ) -> u32;
         pub fn calls_part(
             n: u32,
             k: u32,
@@ -111,7 +103,6 @@ mod foreign {
             room: *mut u32,
             length: usize,
         ) -> u32;
-        pub fn calls_route_links(n: u32, k: u32, b: u32, count: u32, x: u32, y: u32) -> u32;
     }
 
     #[link(name = "calls_plan", kind = "static")]
@@ -326,6 +317,15 @@ mod foreign {
             bytes: *const u8,
             count: usize,
         );
+        pub fn calls_check_place(
+            n: u32,
+            k: u32,
+            b: u32,
+            count: u32,
+            table: *const u8,
+            codes: usize,
+        ) -> u32;
+        pub fn calls_route_links(n: u32, k: u32, b: u32, count: u32, x: u32, y: u32) -> u32;
     }
 
     #[link(name = "calls_sheets", kind = "static")]

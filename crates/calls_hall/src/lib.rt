@@ -123,13 +123,6 @@ pub extern "C" fn calls_check(n: u32, k: u32, b: u32, count: u32, table: &[u8]) 
 }
 
 #[no_mangle]
-pub extern "C" fn calls_check_place(n: u32, k: u32, b: u32, count: u32, table: &[u8]) -> u32
-    ensures { λ r. ⌜ r ≡ checkOf (hallOf n k b count) (now (table .entry)) .place ⌝ }
-{
-    ports::check_table(Hall { n, k, b, count }, table).place
-}
-
-#[no_mangle]
 pub extern "C" fn calls_part(
     n: u32,
     k: u32,
@@ -163,11 +156,4 @@ pub extern "C" fn calls_route(
     let a = route::route_between(Hall { n, k, b, count }, x, y);
     let words = a.uids;
     tell(a.refusal, &words, room)
-}
-
-#[no_mangle]
-pub extern "C" fn calls_route_links(n: u32, k: u32, b: u32, count: u32, x: u32, y: u32) -> u32
-    ensures { λ r. ⌜ r ≡ routeBetween (hallOf n k b count) x y .links ⌝ }
-{
-    route::route_between(Hall { n, k, b, count }, x, y).links
 }

@@ -1,9 +1,10 @@
-// The tests and parts that other calls rest on, for a caller outside of Rattle, on plain numbers and slices.
+// The tests and parts that other calls rest on, and single fields of their answers, for a caller outside of Rattle, on plain numbers and slices.
 ghost use mathlib.Core.Path.{_≡_};
 ghost use Prim.Native.Nat.{_-_};
 ghost use Rattle.combine.specs.Tests.{pick};
 ghost use Rattle.hall.specs.Halls.{nFits, kFits, bFits, valid, servers};
-ghost use Rattle.route.specs.Answers.{firstLinkOf};
+ghost use Rattle.route.specs.Answers.{routeBetween, firstLinkOf};
+ghost use Rattle.ports.specs.Answers.{checkOf};
 ghost use Rattle.ports.specs.Codes.{known, firstUnknown, up};
 ghost use Rattle.frame.specs.Addresses.{addressesFit};
 ghost use Rattle.frame.specs.Checksum.{folded};
@@ -139,4 +140,18 @@ pub extern "C" fn calls_put_bytes(room: &mut [u8], at: usize, bytes: &[u8])
     ensures { λ _. ⌜ now (room .exit) ≡ roomOf (now (room .entry)) at (now (bytes .entry)) ⌝ }
 {
     words::put_bytes(room, at, bytes);
+}
+
+#[no_mangle]
+pub extern "C" fn calls_check_place(n: u32, k: u32, b: u32, count: u32, table: &[u8]) -> u32
+    ensures { λ r. ⌜ r ≡ checkOf (hallOf n k b count) (now (table .entry)) .place ⌝ }
+{
+    ports::check_table(Hall { n, k, b, count }, table).place
+}
+
+#[no_mangle]
+pub extern "C" fn calls_route_links(n: u32, k: u32, b: u32, count: u32, x: u32, y: u32) -> u32
+    ensures { λ r. ⌜ r ≡ routeBetween (hallOf n k b count) x y .links ⌝ }
+{
+    route::route_between(Hall { n, k, b, count }, x, y).links
 }

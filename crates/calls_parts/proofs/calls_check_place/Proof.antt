@@ -1,9 +1,9 @@
--- `calls_hall::calls_check_place` meets its contract: it tells what the table check answers.
+-- `calls_parts::calls_check_place` meets its contract: it tells what the table check answers.
 use mathlib.Core.Path.{ap}
 use borrow.Author.Needs.{needs}
 use Rattle.ports.specs.declared.TableCheck.{TableCheck}
-use Rattle.calls_hall.proofs.calls_check_place.Statement.{statement}
-use Rattle.calls_hall.proofs.calls_check_place.Tie as tie
+use Rattle.calls_parts.proofs.calls_check_place.Statement.{statement}
+use Rattle.calls_parts.proofs.calls_check_place.Tie as tie
 
 check-table-requires : tie.Need-check-table-requires
 check-table-requires c κs = search needs

@@ -1,9 +1,9 @@
--- `calls_hall::calls_route_links` meets its contract: it tells the route's links.
+-- `calls_parts::calls_route_links` meets its contract: it tells the route's links.
 use mathlib.Core.Path.{ap}
 use borrow.Author.Needs.{needs}
 use Rattle.route.specs.declared.Route.{Route}
-use Rattle.calls_hall.proofs.calls_route_links.Statement.{statement}
-use Rattle.calls_hall.proofs.calls_route_links.Tie as tie
+use Rattle.calls_parts.proofs.calls_route_links.Statement.{statement}
+use Rattle.calls_parts.proofs.calls_route_links.Tie as tie
 
 route-between-requires : tie.Need-route-between-requires
 route-between-requires c κs = search needs
