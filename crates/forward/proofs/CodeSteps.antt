@@ -36,9 +36,10 @@ use Rattle.forward.specs.Packets.{drop-ttl, drop-route, drop-retry, drop
 use Rattle.forward.specs.Seen.{Seen}
 use Rattle.forward.specs.Proxies.{isCandidate, choice}
 use Rattle.forward.specs.Steps.{Reroute, reachable, across, from4, firstLevel, rerouted, setProxy, rerouteOn, stepFrom, stepOn}
-use Rattle.forward.specs.Inside.{Here, Ahead, Sound, Standing, Stopped, Placed, onward, wayTo, wayOver, outlookBy, outlookOf, turnBy, turnOf}
+use Rattle.forward.specs.Inside.{Here, Ahead, Sound, Standing, Stopped, Placed, clearedIf, wayTo, wayOver, outlookBy, outlookOf, turnBy, turnOf}
 use Rattle.forward.proofs.Passes.{step-passes}
 use Rattle.forward.proofs.Steps.{last-pass}
+use Rattle.forward.proofs.Trips.{tidied-dst, tidied-ttl, tidied-retry, tidied-fits}
 use Rattle.forward.proofs.Chosen.{choice-at}
 use Rattle.forward.proofs.Links as ahead
 use Rattle.forward.proofs.Hops.{Suits, proxy-in-hall, proxy-away}
@@ -305,32 +306,21 @@ module _ {whole : Bool} (h : Hall) (table : List ℕ) (me : ℕ) (p : Packet) wh
 
 -- a packet that nothing refuses, tidied, and as it goes on
 module _ (packet : Packet) where
-  pub tidied-dst : tidied packet .dst ≡ packet .dst
-  tidied-dst = cases (packet .«has_proxy») (λ e. rw e) (λ e. rw e)
-
-  tidied-ttl : tidied packet .ttl ≡ packet .ttl
-  tidied-ttl = cases (packet .«has_proxy») (λ e. rw e) (λ e. rw e)
-
   tidied-arrived : (me : ℕ) → isArrived me (tidied packet) ≡ isArrived me packet
   unfolding isArrived
   tidied-arrived me = cases (packet .«has_proxy») (λ e. rw e) (λ e. rw e)
 
   -- its goal on the way does not depend on the number of a proxy that it has not
-  pub goal-onward : (arrived : Bool) → goal (onward arrived packet) ≡ goal (onward arrived (tidied packet))
+  pub goal-cleared : (arrived : Bool) → goal (clearedIf arrived packet) ≡ goal (clearedIf arrived (tidied packet))
   unfolding goal
-  goal-onward true = sym tidied-dst
-  goal-onward false = cases (packet .«has_proxy») (λ e. rw e) (λ e. rw e)
+  goal-cleared true = sym (tidied-dst packet)
+  goal-cleared false = cases (packet .«has_proxy») (λ e. rw e) (λ e. rw e)
 
 module _ (h : Hall) (packet : Packet) where
   pub tidied-sound : Sound h packet → Sound h (tidied packet)
   tidied-sound a =
-      cases (packet .«has_proxy»)
-      (λ e. let q : tidied packet ≡ packet = rw e in rw q a)
-      (λ e. let q : tidied packet ≡ cleared packet = rw e in rw q (record {
-        dst-fits = a .dst-fits;
-        proxy-fits = λ z. absurd (let w : _≡_ {A = ℕ} 0 1 = cc in omega arith);
-        retry-fits = a .retry-fits;
-      }))
+      let f = tidied-fits h packet (record { dst-in = a .dst-fits; proxy-in = a .proxy-fits }) in
+      record { dst-fits = f .dst-in; proxy-fits = f .proxy-in; retry-fits = rw (tidied-retry packet) (a .retry-fits) }
 
   module _ {whole : Bool} (table : List ℕ) (me : ℕ) (a : Here h whole table me) (b : Sound h packet) (far : me ≡ packet .dst → ⊥) (live : packet .ttl ≡ 0 → ⊥) where
     away : tidied packet .dst ≡ me → ⊥
@@ -359,9 +349,9 @@ module _ (h : Hall) (packet : Packet) where
     stands-set-out e =
         record { here = a; packet = tidied-sound b; dst-apart = away; goal-apart = goal-far e; alive = omega (arith, tidied-ttl packet) }
 
-    pub stands-onward : (arrived : Bool) → arrived ≡ isArrived me packet → Standing h whole table me (onward arrived (tidied packet))
-    stands-onward true e = stands-arrived
-    stands-onward false e = stands-set-out (sym e)
+    pub stands-on-way : (arrived : Bool) → arrived ≡ isArrived me packet → Standing h whole table me (clearedIf arrived (tidied packet))
+    stands-on-way true e = stands-arrived
+    stands-on-way false e = stands-set-out (sym e)
 
   -- 1 to 3
   module _ (s : Seen) (me : ℕ) (o : Step) where
@@ -379,11 +369,11 @@ module _ (h : Hall) (packet : Packet) where
 
       module _ (live : packet .ttl ≡ 0 → ⊥) where
         by-arrived : (arrived : Bool) → arrived ≡ isArrived me (tidied packet)
-            → stepFrom h s me (tidied packet) (onward arrived (tidied packet)) arrived ≡ stepOn h s me (tidied packet)
+            → stepFrom h s me (tidied packet) (clearedIf arrived (tidied packet)) arrived ≡ stepOn h s me (tidied packet)
         unfolding stepOn
         by-arrived true e = rw (away-from, ne-eqb (tidied packet .ttl) 0 (λ z. live (sym (tidied-ttl packet) ∙ z)), ← e)
         by-arrived false e = rw (away-from, ne-eqb (tidied packet .ttl) 0 (λ z. live (sym (tidied-ttl packet) ∙ z)), ← e)
 
-        pub step-goes-on : (arrived : Bool) → arrived ≡ isArrived me packet → o ≡ stepFrom h s me (tidied packet) (onward arrived (tidied packet)) arrived
+        pub step-goes-on : (arrived : Bool) → arrived ≡ isArrived me packet → o ≡ stepFrom h s me (tidied packet) (clearedIf arrived (tidied packet)) arrived
             → o ≡ stepOn h s me (tidied packet)
         step-goes-on arrived e g = g ∙ by-arrived arrived (e ∙ sym (tidied-arrived packet me))

@@ -7,7 +7,7 @@ use native.Mathlib.Omega.{arith}
 use lib.Dec.{eqb}
 use lib.ListN.{length}
 use borrow.Author.Tests.{eqb-true, eqb-false}
-use Rattle.combine.proofs.Tests.{pick-holds}
+use Rattle.combine.proofs.Tests.{never, pick-holds}
 use Rattle.hall.specs.declared.Hall.{Hall}
 use Rattle.route.specs.Routes.{hops}
 use Rattle.route.specs.Walks.{Each}
@@ -16,7 +16,7 @@ use Rattle.forward.specs.Packets.{forwarded, cleared, tidied}
 use Rattle.forward.specs.Journeys.{Trip, stepAt, endsAt, goesOn, tripOn, trip, sight}
 use Rattle.forward.proofs.Passes.{pick-ways}
 use Rattle.forward.specs.Travels.{Travels, last-step, one-step, Comes, at-source, next-step}
-use Rattle.forward.proofs.Ways.{Ending, is-forwarded, is-delivered, is-drop-ttl, is-drop-route, is-drop-retry, is-drop-proxy, SentOn, Final, final-delivered, final-drop-ttl, final-drop-route, final-drop-retry, final-drop-proxy, LastStep}
+use Rattle.forward.proofs.Ways.{Fits, Ending, is-forwarded, is-delivered, is-drop-ttl, is-drop-route, is-drop-retry, is-drop-proxy, SentOn, Final, final-delivered, final-drop-ttl, final-drop-route, final-drop-retry, final-drop-proxy, LastStep}
 use Rattle.forward.proofs.Steps.{step-ending, sent-on, reroutes-few}
 
 -- a packet keeps its numbers where it is tidied
@@ -28,6 +28,11 @@ tidied-ttl p = pick-holds (λ (q : Packet). q .ttl ≡ p .ttl) (p .«has_proxy»
 
 pub tidied-retry : (p : Packet) → tidied p .retry ≡ p .retry
 tidied-retry p = pick-holds (λ (q : Packet). q .retry ≡ p .retry) (p .«has_proxy») p (cleared p) refl refl
+
+-- and its servers
+pub tidied-fits : (h : Hall) (p : Packet) → Fits h p → Fits h (tidied p)
+tidied-fits h p f =
+    pick-ways (Fits h) (p .«has_proxy») p (cleared p) (λ e. f) (λ e. record { dst-in = f .dst-in; proxy-in = λ q. never q refl })
 
 final : {e : ℕ} → Ending e → (e ≡ forwarded → ⊥) → Final e
 final is-forwarded d = absurd (d refl)

@@ -43,9 +43,9 @@ lent h whole table me = pick whole (stepTable h (counted h 0 table) me) (lentCou
 abbrev pub lentLength : Hall → Bool → ℕ
 lentLength h whole = pick whole (tableLength h) (stepLength h)
 
--- the packet as it goes on: without its proxy where it has arrived there
-abbrev pub onward : Bool → Packet → Packet
-onward arrived p = pick arrived (cleared p) p
+-- 3: the packet with its proxy cleared, where "arrived"
+abbrev pub clearedIf : Bool → Packet → Packet
+clearedIf arrived p = pick arrived (cleared p) p
 
 -- the way to a local target: its local next hop where it can be reached
 unfoldable pub wayTo : Hall → Seen → ℕ → ℕ → Way

@@ -22,7 +22,7 @@ ghost use Rattle.forward.specs.Proxies.{choice};
 ghost use Rattle.forward.specs.Steps.{stepFrom, rerouteOn, step};
 ghost use Rattle.forward.specs.Journeys.{trip};
 ghost use Rattle.forward.specs.Answers.{most-passed, refusedStep, stepOf, journeyFrom, refusedJourney, journeyOf};
-ghost use Rattle.forward.specs.Inside.{Here, Target, Ahead, Standing, Stopped, Above, Placed, Crossed, Servers, Sound, Departing, held, lent, onward, wayTo, wayOver, outlookOf, turnOf, asksBelow};
+ghost use Rattle.forward.specs.Inside.{Here, Target, Ahead, Standing, Stopped, Above, Placed, Crossed, Servers, Sound, Departing, held, lent, clearedIf, wayTo, wayOver, outlookOf, turnOf, asksBelow};
 use crate::endings::DELIVERED;
 use crate::endings::DROP_PROXY;
 use crate::endings::DROP_RETRY;
@@ -118,9 +118,9 @@ fn tidied(p: Packet) -> Packet
     cleared(p)
 }
 
-// The packet as it goes on: without its proxy where it has arrived there.
-fn onward(p: Packet, arrived: bool) -> Packet
-    ensures { λ r. ⌜ r ≡ onward arrived p ⌝ }
+// The packet with its proxy cleared where it has arrived there.
+fn cleared_if(p: Packet, arrived: bool) -> Packet
+    ensures { λ r. ⌜ r ≡ clearedIf arrived p ⌝ }
 {
     if arrived {
         return cleared(p);
@@ -635,13 +635,22 @@ fn step_at(h: Hall, whole: bool, table: &[u8], me: u32, packet: Packet) -> Step
         table,
         me,
         packet.dst,
-        goal(onward(packet, arrived)),
+        goal(cleared_if(packet, arrived)),
     );
     if let Outlook::Next { uid } = outlook {
-        return sent(uid, onward(tidied(packet), arrived));
+        return sent(uid, cleared_if(tidied(packet), arrived));
     }
     let p = tidied(packet);
-    step_from(h, whole, table, me, p, onward(p, arrived), arrived, outlook)
+    step_from(
+        h,
+        whole,
+        table,
+        me,
+        p,
+        cleared_if(p, arrived),
+        arrived,
+        outlook,
+    )
 }
 
 // Whether the packet's proxy, if it has one, is among so many servers.

@@ -1,12 +1,11 @@
 -- With any codes: each step that forwards hops over a usable link to a server of the hall, with a packet of the hall, so each hop of a
 -- journey does; and the last step says what the ending means.
-use mathlib.Core.Path.{_≡_, refl, sym, _∙_, ap}
+use mathlib.Core.Path.{_≡_, sym, _∙_, ap}
 use mathlib.Core.Bool.{true}
 use mathlib.Core.List.{List}
 use Prim.Native.Nat.{ℕ, suc, _-_, _<_}
 use native.Mathlib.Omega.{arith}
 use lib.ListN.{length}
-use Rattle.combine.proofs.Tests.{never}
 use Rattle.hall.specs.declared.Hall.{Hall}
 use Rattle.hall.specs.Cells.{neighbour}
 use Rattle.hall.specs.Halls.{valid, servers}
@@ -22,22 +21,17 @@ use Rattle.local.specs.Local.{placeOf, linked}
 use Rattle.ends.specs.Tables.{stepTable, cellPart}
 use Rattle.ends.proofs.Tables.{near-part}
 use Rattle.forward.specs.declared.Packet.{Packet}
-use Rattle.forward.specs.Packets.{forwarded, drop-retry, cleared, tidied}
+use Rattle.forward.specs.Packets.{forwarded, drop-retry, tidied}
 use Rattle.forward.specs.Endings.{Spent}
 use Rattle.forward.specs.Journeys.{stepAt, sight}
-use Rattle.forward.proofs.Passes.{pick-ways}
 use Rattle.forward.proofs.Steps.{delivered-there, drop-ttl-there, drop-route-means, drop-retry-means, drop-proxy-means}
 use Rattle.forward.proofs.Ways.{Fits, Hop, inside, over, Final, final-delivered, final-drop-ttl, final-drop-route, final-drop-retry, final-drop-proxy}
-use Rattle.forward.proofs.Trips.{tidied-dst, tidied-ttl, tidied-retry, trip-travels, links-within, reroutes-within, trip-ending, trip-last, each-hop}
+use Rattle.forward.proofs.Trips.{tidied-dst, tidied-ttl, tidied-retry, tidied-fits, trip-travels, links-within, reroutes-within, trip-ending, trip-last, each-hop}
 use Rattle.forward.proofs.Hops.{Forwards, step-forwards}
 use Rattle.forward.proofs.Sight.{seen-links, usable-own}
 use Rattle.promises.specs.Journeys.{Usable}
 use Rattle.promises.specs.Journeys as journeys
 use Rattle.promises.specs.AnyCodes.{Means, means-delivered, means-ttl, means-route, means-retry, means-proxy, Kept, AnyCodes, RetrySpent}
-
-pub tidied-fits : (h : Hall) (p : Packet) → Fits h p → Fits h (tidied p)
-tidied-fits h p f =
-    pick-ways (Fits h) (p .«has_proxy») p (cleared p) (λ e. f) (λ e. record { dst-in = f .dst-in; proxy-in = λ q. never q refl })
 
 -- a server of the hall with a packet of the hall: so a journey that is not refused sets out
 abbrev pub Stands : Hall → ℕ → Packet → Type 0

@@ -5,7 +5,7 @@ use Rattle.forward.specs.Seen.{seen}
 use Rattle.forward.proofs.Reroutes.{step-rerouted}
 use Rattle.forward.proofs.Sight.{seen-turns}
 use Rattle.promises.specs.Reroutes.{TwoReroutes}
-use Rattle.promises.proofs.AnyCodes.{tidied-fits}
+use Rattle.forward.proofs.Trips.{tidied-fits}
 
 pub two-reroutes : TwoReroutes
 two-reroutes h table me p v here d x =
