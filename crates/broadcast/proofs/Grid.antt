@@ -1,7 +1,7 @@
 -- Laws of places: the place of a server read as digits, stepped to the next, gives the neighbour without a division.
 use mathlib.Core.Path.{_≡_, refl, sym, _∙_, ap}
-use Prim.Native.Nat.{ℕ, _+_, _-_, _*_, _/_, _%_, _<_}
-use native.Mathlib.Nat.{mod-lt}
+use Prim.Native.Nat.{ℕ, _+_, _-_, _*_, _/_, _%_, _≤_, _<_}
+use native.Mathlib.Nat.{mod-lt, mul-le-mul}
 use native.Mathlib.Omega.{arith}
 use lib.Dec.{ltb}
 use borrow.Author.Tests.{ltb-true, ltb-false}
@@ -9,6 +9,10 @@ use Rattle.combine.proofs.Tests.{cases}
 use Rattle.hall.specs.Cells.{neighbourOver}
 use Rattle.hall.proofs.Place.{place-up, place-sub, place-inside, sub-below, made, inside-of}
 use Rattle.broadcast.specs.Sweeps.{placeAt, nextPlace, neighbourAt}
+
+-- the servers of the largest scope: a sub-cell has at most 72, and there are at most 73 of them
+pub scope-product : (a b : ℕ) → a ≤ 73 → b ≤ 72 → a * b ≤ 5256
+scope-product a b p q = omega (arith, mul-le-mul p q)
 
 -- the place of server r of sub-cell p of cell c
 pub place-of : (T c p r x : ℕ) → r < T → p < T + 1 → x ≡ c * ((T + 1) * T) + (p * T + r) → placeAt T x ≡ record { base = c * ((T + 1) * T); sub = p; inside = r }

@@ -10,16 +10,14 @@ use native.Mathlib.Numerals.{add-one}
 use lib.Dec.{lit≤}
 use lib.ListN.{getD}
 use Rattle.hall.specs.declared.Hall.{Hall}
-use Rattle.hall.specs.Cells.{t}
+use Rattle.hall.specs.Cells.{t, Joined}
 use Rattle.hall.proofs.Links.{hall-same}
 use Rattle.hall.proofs.Growth.{Valid, valid-known, valid-pos}
-use Rattle.route.specs.Walks.{Joined, switch, link}
 use Rattle.route.specs.Walks as walks
 use Rattle.route.proofs.Routes.{route-walk, route-length}
 use Rattle.route.proofs.Local as route-local
 use Rattle.ports.specs.Codes.{EveryUp, SameUps, cellLength, run}
-use Rattle.ports.specs.Links.{wired}
-use Rattle.ports.proofs.Links.{same-below, wired-switch, wired-link, joined-symmetric, joined-agrees}
+use Rattle.ports.proofs.Links.{same-below, link-wired, joined-symmetric, joined-agrees}
 use Rattle.ports.proofs.Parts.{Sound}
 use Rattle.ports.proofs.Runs.{joined-run, joined-every, length-run, run-every}
 use Rattle.search.specs.Rounds.{reachedCount, lastRound}
@@ -29,11 +27,6 @@ use Rattle.search.proofs.Distance.{distance-means, distance-only, distance-self
 use Rattle.search.proofs.Counts.{reached-start, reached-more, last-reached}
 use Rattle.broadcast.specs.Broadcasts.{none, scopeFits, scopeSize, firstIn, linked, rounds}
 use Rattle.broadcast.proofs.Refusals.{scope-low, scope-two, scope-small}
-
--- a link of a walk is wired
-link-wired : (n : ℕ) {l x y : ℕ} → Joined n l x y → wired n l x y ≡ true
-link-wired n {l} {x} {y} (switch e d) = wired-switch n l x y e d
-link-wired n {l} {x} {y} (link j h e) = wired-link n j l x y h e
 
 -- where each number is below m, all are counted, and the last round is below m
 pub counts-all : (old : List ℕ) (n m : ℕ) → m ≤ none → ((v : ℕ) → v < n → getD old v 0 < m) → reachedCount none old n ≡ n

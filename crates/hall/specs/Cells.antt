@@ -77,6 +77,11 @@ pub data Linked (n j u v : ℕ) : Type 0 where
   up : same n (suc j) u v ≡ true → Rule (sub n j u) (u % t n j) (sub n j v) (v % t n j) → Linked n j u v
   down : same n (suc j) u v ≡ true → Rule (sub n j v) (v % t n j) (sub n j u) (u % t n j) → Linked n j u v
 
+-- u and v are joined by a link of level at most l: two servers of one DCell0, or neighbours
+pub data Joined (n l u v : ℕ) : Type 0 where
+  switch : same n zero u v ≡ true → (u ≡ v → ⊥) → Joined n l u v
+  link : (j : ℕ) → j < l → neighbour n j u ≡ v → Joined n l u v
+
 -- the lowest level, up to k, that holds both x and y
 unfoldable pub lowest : ℕ → ℕ → ℕ → ℕ → ℕ
 lowest n zero x y = zero

@@ -5,19 +5,18 @@ use mathlib.Core.List.{[], _∷_}
 use Prim.Native.Nat.{ℕ, _-_, _*_, _<_, _≤_}
 use native.Mathlib.Omega.{arith}
 use lib.Dec.{eqb, leb, ltb}
-use borrow.Author.Tests.{eq-eqb, ne-eqb, lt-ltb, le-ltb, leb-true, leb-false, le-leb, lt-leb, eqb-true, eqb-false, ltb-true, ltb-false}
-use Rattle.combine.specs.Tests.{pick, both}
+use borrow.Author.Tests.{eq-eqb, ne-eqb, lt-ltb, le-ltb, leb-true, le-leb, lt-leb, eqb-true, eqb-false, ltb-true, ltb-false}
+use Rattle.combine.specs.Tests.{pick}
 use Rattle.combine.proofs.Tests.{cases}
 use Rattle.hall.specs.declared.Hall.{Hall}
 use Rattle.hall.specs.Refusals.{refusal, bad-hall, hall-full}
 use Rattle.hall.specs.Cells.{t}
-use Rattle.hall.specs.Halls.{largest, Sized, capacity, nFits, kFits, countFits, valid, isFull, servers}
+use Rattle.hall.specs.Halls.{most-n, top, largest, Sized, capacity, nFits, kFits, countFits, valid, isFull, servers}
 use Rattle.hall.specs.Answers.{sizeOf, racksOf}
 use Rattle.hall.proofs.Growth.{Valid, valid-known, size-at}
-use Rattle.hall.proofs.Racks.{racks-known, count-most, capacity-low, racks-servers}
+use Rattle.hall.proofs.Racks.{racks-known, count-most, racks-servers}
 use Rattle.plan.specs.Plan.{rank, prefixOf}
 use Rattle.plan.specs.Answers.{fitted, firstFitted, isFitted, asksPlan}
-use Rattle.plan.proofs.Halls.{fitted-full}
 use Rattle.plan.proofs.First.{first-fitted, first-servers}
 
 by-tests : (v k f : Bool) → refusal ((bad-hall, v) ∷ (bad-hall, k) ∷ (hall-full, not f) ∷ []) ≡ pick v (pick k (pick f 12 0) 1) 1
@@ -29,7 +28,7 @@ by-tests true true false = refl
 
 pub sized-known : (n k : ℕ) → 2 ≤ n → Sized n k → (nFits n ≡ true) × (kFits n k ≡ true)
 unfolding nFits kFits
-sized-known n k l z = (rw (le-leb 2 n l, le-leb n 8 (z .n-high)), le-leb k 3 (z .k-high))
+sized-known n k l z = (rw (le-leb 2 n l, le-leb n most-n (z .n-high)), le-leb k top (z .k-high))
 
 module _ (h : Hall) where
   pub racks-valid : (r : ℕ) → valid h ≡ true → r ≡ racksOf (h .n) (h .k) → r ≡ capacity (h .n) (h .k)

@@ -1,5 +1,5 @@
 -- Laws of usable links: joined is symmetric, stays in a DCell, and a search may ask each server's switch and neighbours alone.
-use mathlib.Core.Path.{_≡_, refl, sym, _∙_, ap}
+use mathlib.Core.Path.{_≡_, sym, _∙_, ap}
 use mathlib.Core.Bool.{Bool, true, false, not}
 use mathlib.Core.List.{List}
 use Prim.Native.Nat.{ℕ, zero, suc, _+_, _*_, _/_, _%_, _≤_, _<_}
@@ -9,10 +9,10 @@ use native.Mathlib.Omega.{arith}
 use lib.Dec.{eqb, leb}
 use lib.Arith.{digits-div}
 use borrow.Author.Tests.{eqb-true, eq-eqb, ne-eqb, leb-true, leb-false}
-use Rattle.combine.specs.Tests.{both, either, anyBelow}
+use Rattle.combine.specs.Tests.{both, anyBelow}
 use Rattle.combine.proofs.Tests.{cases, never, both-ways, both-left, both-right, both-true, both-swap, either-true, either-left, either-right, either-cases, any-in, any-some}
 use Rattle.hall.specs.declared.Hall.{Hall}
-use Rattle.hall.specs.Cells.{t, cell, same, neighbour}
+use Rattle.hall.specs.Cells.{t, cell, same, neighbour, Joined, switch, link}
 use Rattle.hall.proofs.Cells.{same-eq, eq-same, same-sym, same-up, t-pos, neighbour-neighbour, neighbour-stays}
 use Rattle.ports.specs.Codes.{up, SameUps}
 use Rattle.ports.specs.Links.{onSwitch, bothUp, wired, joined, switchHas, touched}
@@ -21,7 +21,7 @@ use Rattle.ports.proofs.Tables.{up-agrees}
 eqb-swap : (a b : ℕ) → eqb a b ≡ eqb b a
 eqb-swap a b = both-ways (eqb a b) (eqb b a) (λ e. eq-eqb b a (sym (eqb-true a b e))) (λ e. eq-eqb a b (sym (eqb-true b a e)))
 
--- a link of a level is one of each higher level: over a switch, and between neighbours
+-- a link of a level is one of each higher level
 wired-more : (n l m x y : ℕ) → l ≤ m → wired n l x y ≡ true → wired n m x y ≡ true
 unfolding wired
 wired-more n l zero x y h e = let z : l ≡ 0 = omega arith in rw z at e
@@ -30,13 +30,13 @@ wired-more n l (suc m) x y h e =
     (λ q. rw (wired-more n l m x y (leb-true l m q) e))
     (λ q. let z : l ≡ suc m = omega (arith, leb-false l m q) in rw z at e)
 
-pub wired-switch : (n l x y : ℕ) → same n 0 x y ≡ true → (x ≡ y → ⊥) → wired n l x y ≡ true
+-- so who is joined by a link of level at most l is wired
+pub link-wired : (n : ℕ) {l x y : ℕ} → Joined n l x y → wired n l x y ≡ true
 unfolding wired onSwitch
-wired-switch n l x y e d = wired-more n 0 l x y (omega arith) (both-true (same n 0 x y) (not (eqb x y)) e (ap not (ne-eqb x y d)))
-
-pub wired-link : (n j l x y : ℕ) → j < l → neighbour n j x ≡ y → wired n l x y ≡ true
-unfolding wired
-wired-link n j l x y h e = wired-more n (suc j) l x y h (rw (eq-eqb (neighbour n j x) y e) (either-true (wired n j x y)))
+link-wired n {l} {x} {y} (switch e d) =
+    wired-more n 0 l x y (omega arith) (both-true (same n 0 x y) (not (eqb x y)) e (ap not (ne-eqb x y d)))
+link-wired n {l} {x} {y} (link j h e) =
+    wired-more n (suc j) l x y h (rw (eq-eqb (neighbour n j x) y e) (either-true (wired n j x y)))
 
 -- whoever shares a DCell of level i with a server of the first one is in the first one
 pub same-below : (n i x y : ℕ) → 0 < n → same n i x y ≡ true → x < t n i → y < t n i

@@ -51,7 +51,7 @@ use Rattle.forward.proofs.Hops.{step-forwards}
 use Rattle.forward.proofs.Sight.{seen-links, usable-every}
 use Rattle.promises.specs.Journeys.{Sound}
 use Rattle.promises.specs.EveryUp.{common, linksOf, Delivered, AllDelivered}
-use Rattle.promises.proofs.Passing.{last-one, last-more, select-through, leaves, level-leaves, hop-none, hop-across, hop-near, passed-still, passed-out, passed-on, passed-starts, passed-above}
+use Rattle.promises.proofs.Passing.{last-one, last-more, select-through, leaves, level-leaves, hop-none, hop-across, hop-near, passed-out, passed-on, passed-starts, passed-above}
 
 -- the table of a DCell(b) with every port up
 ones : Hall → List ℕ
@@ -191,7 +191,7 @@ module _ (h : Hall) (table : List ℕ) (is-valid : valid h ≡ true) (long : len
   goes : {x : ℕ} {p : Packet} {j : Trip} → Travels h table x p j → p .«has_proxy» ≡ false → x < servers h → p .dst < servers h → Goes x p j
   goes {x} {p} (last-step d) e here there = goes-last x p e here there d
       (cases (eqb x (p .dst))
-      (λ q. let w = eqb-true x (p .dst) q in rw (← w) (passed-still (onward h) (h .n) (h .b) (h .k) (p .ttl) x))
+      (λ q. let w = eqb-true x (p .dst) q in rw (← w) (delivery.passed-still (onward h) (h .n) (h .b) (h .k) (p .ttl) x))
       (λ q. cases (eqb (p .ttl) 0)
       (λ z. let w = eqb-true (p .ttl) 0 z in rw w (passed-out (onward h) (h .n) (h .b) (h .k) x (p .dst)))
       (λ z. absurd (d (step-goes x p e here there (eqb-false x (p .dst) q) (omega (arith, eqb-false (p .ttl) 0 z)) .goes)))))

@@ -17,6 +17,12 @@ use Rattle.combine.proofs.Tests.{cases}
 use Rattle.hall.proofs.Cells.{same-refl, same-left, same-mono}
 use Rattle.route.proofs.Above.{above-left, above-nil, above-none, above-next, above-length}
 
+-- at its destination a packet passes nobody else
+pub passed-still : (next : ℕ → ℕ → ℕ) (n b l f x : ℕ) → passed next n b l f x x ≡ x ∷ []
+unfolding passed
+passed-still next n b l zero x = refl
+passed-still next n b l (suc f) x = rw (eq-eqb x x refl, passed)
+
 module _ (n b l : ℕ) (low : b ≤ l) (next d : ℕ → ℕ → ℕ) (L : Local n b next d) where
   -- a hop stays in the DCell of level l, and leaves one less to go
   Nearer : ℕ → ℕ → ℕ → Type 0
@@ -66,11 +72,6 @@ module _ (n b l : ℕ) (low : b ≤ l) (next d : ℕ → ℕ → ℕ) (L : Local
   unfolding left
   left-self x = rw (above-none n b l x x (same-refl n b x)) (L .self x)
 
-  stops : (f x : ℕ) → passed next n b l f x x ≡ x ∷ []
-  unfolding passed
-  stops zero x = refl
-  stops (suc f) x = rw (eq-eqb x x refl, passed)
-
   -- delivered: the passed ends at y, over exactly what was left to go
   pub delivered : (f x y : ℕ) → same n l x y ≡ true → left d (above n b l x y) x y ≤ f
       → (p : List ℕ) × (passed next n b l f x y ≡ p ++ (y ∷ [])) × (length p ≡ left d (above n b l x y) x y)
@@ -79,7 +80,7 @@ module _ (n b l : ℕ) (low : b ≤ l) (next d : ℕ → ℕ → ℕ) (L : Local
       (λ q. let e = eqb-true x y q in rw (← e) ([], refl, sym (left-self x)))
       (λ q. let k = hop-by x y s (eqb-false x y q) (above n b l x y) refl in absurd (omega arith))
   delivered (suc f) x y s h = cases (eqb x y)
-      (λ q. let e = eqb-true x y q in rw (← e) ([], stops (suc f) x, sym (left-self x)))
+      (λ q. let e = eqb-true x y q in rw (← e) ([], passed-still next n b l (suc f) x, sym (left-self x)))
       (λ q.
       let k = hop-by x y s (eqb-false x y q) (above n b l x y) refl in
       let i = delivered f (hop next n b l x y) y (k .0) (omega arith) in

@@ -6,8 +6,9 @@ use Prim.Native.Nat.{ℕ, _+_, _≤_}
 use native.Mathlib.Omega.{arith}
 use lib.ListN.{length}
 use Rattle.combine.proofs.Tests.{cases}
+use Rattle.hall.specs.Cells.{Joined, switch, link}
 use Rattle.route.specs.Routes.{select, hops}
-use Rattle.route.specs.Walks.{Each, Joined, switch, link, Walk, done, step}
+use Rattle.route.specs.Walks.{Each, Walk, done, step}
 
 module _ {ℓ} {A : Type ℓ} where
   pub each-append : (P : A → Type 0) (r s : List A) → Each P r → Each P s → Each P (r ++ s)

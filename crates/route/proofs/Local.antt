@@ -7,10 +7,10 @@ use Prim.Native.Nat.{ℕ, suc, _+_, _-_, _<_}
 use native.Mathlib.Omega.{arith}
 use lib.Pow.{pow-pos}
 use lib.ListN.{length}
-use Rattle.hall.specs.Cells.{same}
+use Rattle.hall.specs.Cells.{same, Joined, switch, link}
 use Rattle.hall.proofs.Cells.{same-refl, same-trans, same-mono, neighbour-stays}
 use Rattle.route.specs.Routes.{route}
-use Rattle.route.specs.Walks.{Joined, switch, link, Walk, done, step}
+use Rattle.route.specs.Walks.{Walk, done, step}
 use Rattle.route.specs.Delivery.{Local, Least, Toward, second}
 use Rattle.route.proofs.Lists.{walk-second}
 use Rattle.route.proofs.Routes.{route-walk, route-length}

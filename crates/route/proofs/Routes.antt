@@ -7,9 +7,9 @@ use native.Mathlib.Omega.{arith}
 use lib.Dec.{eqb}
 use lib.ListN.{length, length-append}
 use borrow.Author.Tests.{eqb-true, eqb-false, eq-eqb, ne-eqb}
-use Rattle.hall.specs.Cells.{same, near, far}
+use Rattle.hall.specs.Cells.{same, near, far, Joined, switch, link}
 use Rattle.route.specs.Routes.{route, links, hops}
-use Rattle.route.specs.Walks.{Joined, switch, link, Walk, done, step, Each}
+use Rattle.route.specs.Walks.{Walk, done, step, Each}
 use Rattle.combine.proofs.Tests.{cases}
 use Rattle.hall.proofs.Cells.{Crossing, crossing, same-refl, same-trans, same-up}
 use Rattle.route.proofs.Lists.{each-append, each-map, walk-more, walk-append, hops-append}

@@ -7,9 +7,9 @@ use Prim.Native.Nat.{ℕ, zero, suc, _+_, _^_, _≤_, _<_}
 use lib.Dec.{eqb}
 use lib.ListN.{length}
 use Rattle.combine.specs.Tests.{pick}
-use Rattle.hall.specs.Cells.{same}
+use Rattle.hall.specs.Cells.{same, Joined}
 use Rattle.route.specs.Routes.{above}
-use Rattle.route.specs.Walks.{Joined, Walk}
+use Rattle.route.specs.Walks.{Walk}
 
 -- the hop from x towards y: with no link above b, the local next hop to y; at the first link's near end, its far end; else
 -- the local next hop to its near end. next x y is the local next hop from x towards y in their DCell of level b

@@ -1,20 +1,15 @@
--- What the laws say of a list of servers: who is joined to whom, a walk over links, all of its members, none of them twice.
+-- What the laws say of a list of servers: the level of a link, a walk over links, all of its members, none of them twice.
 -- Section "The hall and its numbers".
 use mathlib.Core.Path.{_≡_}
 use mathlib.Core.Bool.{true}
 use mathlib.Core.List.{List, [], _∷_}
-use Prim.Native.Nat.{ℕ, zero, suc, _<_}
-use Rattle.hall.specs.Cells.{same, neighbour}
+use Prim.Native.Nat.{ℕ, zero, suc}
+use Rattle.hall.specs.Cells.{same, neighbour, Joined}
 
 -- u and v are joined by a link of level i: two servers of one DCell0, or neighbours
 abbrev pub LinkOf : ℕ → ℕ → ℕ → ℕ → Type 0
 LinkOf n zero u v = (same n zero u v ≡ true) × (u ≡ v → ⊥)
 LinkOf n (suc j) u v = neighbour n j u ≡ v
-
--- u and v are joined by a link of level at most l
-pub data Joined (n l u v : ℕ) : Type 0 where
-  switch : same n zero u v ≡ true → (u ≡ v → ⊥) → Joined n l u v
-  link : (j : ℕ) → j < l → neighbour n j u ≡ v → Joined n l u v
 
 -- a list of servers that starts with x, ends with y, and has each two that follow each other joined
 pub data Walk (n l : ℕ) : ℕ → ℕ → List ℕ → Type 0 where

@@ -1,13 +1,10 @@
 -- `broadcast::places::next_place` meets its contract: each return has the tests that decide, and the numbers of the largest scope fit.
-use Prim.Native.Nat.{ℕ, _+_, _*_, _≤_}
-use native.Mathlib.Nat.{mul-le-mul}
+use Prim.Native.Nat.{_+_}
 use native.Mathlib.Omega.{arith}
 use borrow.Author.Tests.{lt-ltb, le-ltb}
+use Rattle.broadcast.proofs.Grid.{scope-product}
 use Rattle.broadcast.proofs.places.next_place.Statement.{statement}
 use Rattle.broadcast.proofs.places.next_place.Tie as tie
-
-product : (a b : ℕ) → a ≤ 73 → b ≤ 72 → a * b ≤ 5256
-product a b p q = omega (arith, mul-le-mul p q)
 
 add-if1 : tie.Need-add-if1
 add-if1 c = let k = c .before .pre in omega arith
@@ -31,13 +28,13 @@ mul-t7 : tie.Need-mul-t7
 mul-t7 c =
     let a = c .before .before .before .before .args in
     let k = c .before .before .before .before .pre in
-    omega (arith, product (a .size + 1) (a .size) (omega arith) (omega arith))
+    omega (arith, scope-product (a .size + 1) (a .size) (omega arith) (omega arith))
 
 add-t8 : tie.Need-add-t8
 add-t8 c =
     let a = c .before .before .before .before .before .args in
     let k = c .before .before .before .before .before .pre in
-    omega (arith, product (a .size + 1) (a .size) (omega arith) (omega arith))
+    omega (arith, scope-product (a .size + 1) (a .size) (omega arith) (omega arith))
 
 returns-3 : tie.Need-returns-3
 returns-3 c = rw (le-ltb _ _ (c .before .before .before .if1 .left), le-ltb _ _ (c .before .if2 .left))

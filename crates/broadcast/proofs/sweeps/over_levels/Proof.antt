@@ -3,8 +3,7 @@ use mathlib.Core.Path.{_≡_, refl, _∙_, sym}
 use mathlib.Core.Bool.{Bool}
 use mathlib.Core.List.{List}
 use mathlib.Core.Logic.{⊎-elim}
-use Prim.Native.Nat.{ℕ, _≤_, _-_, _+_, _*_}
-use native.Mathlib.Nat.{mul-le-mul}
+use Prim.Native.Nat.{ℕ, _≤_, _-_, _+_}
 use native.Mathlib.Omega.{arith}
 use lib.ListN.{length}
 use borrow.Author.Needs.{needs}
@@ -13,6 +12,7 @@ use Rattle.combine.proofs.Tests.{either-true, either-false}
 use Rattle.hall.specs.Cells.{t}
 use Rattle.hall.proofs.Growth.{t-next}
 use Rattle.broadcast.specs.Sweeps.{Sweep, reachedBy, onLinks, onLevels}
+use Rattle.broadcast.proofs.Grid.{scope-product}
 use Rattle.broadcast.proofs.Marks.{sweep-none, sweep-cong, sweep-then}
 use Rattle.broadcast.proofs.Reaches.{reads-same, levels-start, levels-next, cell-fits, fits-again}
 use Rattle.broadcast.proofs.sweeps.over_levels.Statement.{statement}
@@ -28,11 +28,6 @@ abbrev μ-loop : tie.MeasureT-loop
 first-size : (n : ℕ) → n ≡ t n 0
 unfolding t
 first-size n = refl
-
-product : (cell : ℕ) → cell ≤ 72 → (cell + 1) * cell ≤ 5256
-product cell h =
-    let k : cell + 1 ≤ 73 = omega arith in
-    omega (arith, mul-le-mul k h)
 
 loop-holds : tie.Need-loop-holds Inv-loop μ-loop
 loop-holds c =
@@ -59,7 +54,7 @@ mul-cell c =
     let k = c .before .before .before .before .before .before .before .before .before .pre in
     let w = c .before .before .before .before .before .before .loop in
     let b : w .cell ≤ 72 = omega (arith, w .inv .1, cell-fits (a .h) (a .levels) (a .size) (a .r) (a .room .now) k (w .j) (c .before .before .before .before .before .loop-test .taken)) in
-    omega (arith, product (w .cell) b)
+    omega (arith, scope-product (w .cell + 1) (w .cell) (omega arith) b)
 
 add-j : tie.Need-add-j Inv-loop μ-loop
 add-j c = omega arith
