@@ -1,4 +1,7 @@
 // Broadcast rounds within a scope: after how many links each server of the source's DCell is reached.
+
+#![tactic(auto)]
+
 pub mod places;
 pub mod sweeps;
 
@@ -16,7 +19,7 @@ use hall::refusals::{BAD_ADDRESS, SHORT_ROOM};
 pub const NONE: u16 = 65535;
 
 // The servers reached, the source included, and the last round; the numbers themselves are in the lent room.
-#[derive(Drop)]
+#[derive(Clone, Copy)]
 pub struct Broadcast {
     pub refusal: u32,
     pub reached: u32,

@@ -1,4 +1,7 @@
 // The calls about a hall, its routes and its tables for a caller outside of Rattle, on plain numbers and slices.
+
+#![tactic(auto)]
+
 ghost use Rattle.std.specs.Prelude.{◌≡◌, [], ◌∷◌};
 ghost use Rattle.hall.specs.Answers.{size_of, sizes_of};
 ghost use Rattle.cells.specs.Answers.{uid_of, tuple_of, cell_around, neighbour_of, link_between};

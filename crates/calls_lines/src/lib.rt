@@ -1,4 +1,7 @@
 // The calls about the lines of a trace for a caller outside of Rattle, on plain numbers and slices.
+
+#![tactic(auto)]
+
 ghost use Rattle.std.specs.Prelude.{◌≡◌};
 ghost use Rattle.sheet.specs.Answers.{sheet_of};
 ghost use Rattle.report.specs.Texts.{hall_line, refused_line, end_line, packet_line};

@@ -1,4 +1,7 @@
 // The calls about a packet's way for a caller outside of Rattle, on plain numbers and slices.
+
+#![tactic(auto)]
+
 ghost use Rattle.std.specs.Prelude.{◌≡◌};
 ghost use Rattle.local.specs.Answers.{distances_of, next_hop_of};
 ghost use Rattle.forward.specs.Packets.{packet_of};

@@ -1,4 +1,7 @@
 // The tests and parts that other calls rest on, and single fields of their answers, for a caller outside of Rattle, on plain numbers and slices.
+
+#![tactic(auto)]
+
 ghost use Rattle.std.specs.Prelude.{◌≡◌, ◌-◌};
 ghost use Rattle.combine.specs.Tests.{pick};
 ghost use Rattle.hall.specs.Halls.{n_fits, k_fits, b_fits, valid, servers};

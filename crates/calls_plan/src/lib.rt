@@ -1,4 +1,7 @@
 // The calls about the DCell1s of a hall, which is fitted one by one, for a caller outside of Rattle, on plain numbers and slices.
+
+#![tactic(auto)]
+
 ghost use Rattle.std.specs.Prelude.{◌≡◌};
 ghost use Rattle.hall.specs.Answers.{racks_of};
 ghost use Rattle.hall.specs.Halls.{hall_of};

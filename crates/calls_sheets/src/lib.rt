@@ -1,4 +1,7 @@
 // The calls about a sheet for a caller outside of Rattle, on plain numbers and slices.
+
+#![tactic(auto)]
+
 ghost use Rattle.std.specs.Prelude.{◌≡◌};
 ghost use Rattle.hall.specs.Rooms.{told, written};
 ghost use Rattle.sheet.specs.Answers.{sheet_of};

@@ -4,7 +4,7 @@ ghost use Rattle.hall.specs.Cells.{port, sub_over, first_over, neighbour_over};
 ghost use Rattle.cells.specs.Answers.{ends_over};
 
 // The ends of the link between the sub-cells of two servers.
-#[derive(Drop)]
+#[derive(Clone, Copy)]
 pub(crate) struct Ends {
     pub near: u64,
     pub far: u64,

@@ -1,4 +1,7 @@
 // Where a server stands in a hall: its tuple, the cells around it, its neighbours and links.
+
+#![tactic(auto)]
+
 mod joined;
 
 ghost use Rattle.std.specs.Prelude.{true, ◌≡◌, [], ◌∷◌, ◌≤◌, ◌<◌};
@@ -14,21 +17,21 @@ use hall::refusals::{BAD_HALL, BAD_RANGE, BAD_UID};
 use hall::{Hall, PLACES, TOP};
 
 // The uid of a tuple.
-#[derive(Drop)]
+#[derive(Clone, Copy)]
 pub struct Uid {
     pub refusal: u32,
     pub uid: u32,
 }
 
 // The tuple of a uid: place i holds a(i), zeros above k.
-#[derive(Drop)]
+#[derive(Clone, Copy)]
 pub struct Tuple {
     pub refusal: u32,
     pub entries: [u32; PLACES],
 }
 
 // The DCell around a server: its first uid, and its servers.
-#[derive(Drop)]
+#[derive(Clone, Copy)]
 pub struct Cell {
     pub refusal: u32,
     pub first: u32,
@@ -36,14 +39,14 @@ pub struct Cell {
 }
 
 // The neighbour of a server at a level.
-#[derive(Drop)]
+#[derive(Clone, Copy)]
 pub struct Neighbour {
     pub refusal: u32,
     pub uid: u32,
 }
 
 // The link between two sub-cells, both ends as hall uids.
-#[derive(Drop)]
+#[derive(Clone, Copy)]
 pub struct Link {
     pub refusal: u32,
     pub from: u32,

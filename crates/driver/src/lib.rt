@@ -1,4 +1,7 @@
 // The calls for a driver in C: header, route, step and the table of a step, on plain numbers and byte slices.
+
+#![tactic(auto)]
+
 ghost use Rattle.std.specs.Prelude.{◌≡◌};
 ghost use Rattle.route.specs.Answers.{route_between};
 ghost use Rattle.ends.specs.Answers.{of_step_table};

@@ -1,5 +1,8 @@
 // The table that a step is lent: the codes of its server's DCell(b), and behind them the far port's code of each link above it, each as
 // it counts in the hall.
+
+#![tactic(auto)]
+
 ghost use Rattle.std.specs.Prelude.{◌≡◌, true, ◌+◌, ◌*◌, ◌≤◌, ◌<◌, length};
 ghost use Rattle.combine.specs.Tests.{pick};
 ghost use Rattle.combine.specs.Lists.{up_to};

@@ -1,4 +1,7 @@
 // One forwarding step of a packet at a server, and the journey that steps make.
+
+#![tactic(auto)]
+
 pub mod endings;
 
 ghost use Rattle.std.specs.Prelude.{◌≡◌, true, not, ◌∷◌, ℕ, ◌+◌, ◌-◌, ◌*◌, ◌≤◌, ◌<◌, eqb, ltb, length, get_or, replicate};
@@ -30,7 +33,7 @@ use route::Crossing;
 pub const MOST_PASSED: usize = 256;
 
 // A packet: its destination, a proxy or none, its retry count and its time to live.
-#[derive(Drop)]
+#[derive(Clone, Copy)]
 pub struct Packet {
     pub dst: u32,
     pub has_proxy: bool,
@@ -40,7 +43,7 @@ pub struct Packet {
 }
 
 // What a step answers: the next uid or the ending, the packet to send on, and its reroutes.
-#[derive(Drop)]
+#[derive(Clone, Copy)]
 pub struct Step {
     pub refusal: u32,
     pub ending: u32,
@@ -50,14 +53,14 @@ pub struct Step {
 }
 
 // A candidate for a new proxy: a place of the cell, and the level of its port.
-#[derive(Drop)]
+#[derive(Clone, Copy)]
 pub enum Candidate {
     At { place: u32, level: u32 },
     Nothing,
 }
 
 // What a journey answers: its ending, the links crossed, the reroutes, and the uids passed, zeros behind them.
-#[derive(Drop)]
+#[derive(Clone, Copy)]
 pub struct Journey {
     pub refusal: u32,
     pub ending: u32,
@@ -67,7 +70,7 @@ pub struct Journey {
 }
 
 // The way on from a server: to a next one, over a link that is not usable, or to a local target that can't be reached.
-#[derive(Drop)]
+#[derive(Clone, Copy)]
 enum Way {
     To { uid: u32 },
     Closed,
@@ -75,7 +78,7 @@ enum Way {
 }
 
 // What lies before a packet at a server: the next one, no route to its destination, or that it is blocked at the first link above b, or at none.
-#[derive(Drop)]
+#[derive(Clone, Copy)]
 enum Outlook {
     Next { uid: u32 },
     NoRoute,
@@ -83,7 +86,7 @@ enum Outlook {
 }
 
 // What a reroute makes of a packet: one that tries again, or none where there is no proxy.
-#[derive(Drop)]
+#[derive(Clone, Copy)]
 enum Turned {
     Again { packet: Packet },
     NoProxy,

@@ -1,4 +1,7 @@
 // A frame's header read off the wire, the payload behind it, and the next identification.
+
+#![tactic(auto)]
+
 pub mod addresses;
 pub mod checksum;
 pub mod layout;
@@ -12,7 +15,7 @@ use crate::reading::{fields_refusal, frame_refusal, header_of, place_of, refused
 
 // What a frame says. The header's length is in bytes; where has_proxy is false, proxy is 0. The place is the first byte of the field that a
 // refusal of 13 to 16 is about, and 0 with every other number.
-#[derive(Drop)]
+#[derive(Clone, Copy)]
 pub struct Header {
     pub refusal: u32,
     pub place: u32,

@@ -1,4 +1,7 @@
 // The numbers of a hall cabled as a DCell: which halls there are, and their sizes.
+
+#![tactic(auto)]
+
 pub mod refusals;
 
 ghost use Rattle.std.specs.Prelude.{◌≡◌, ◌<◌};
@@ -18,7 +21,7 @@ pub const TOP: u32 = 3;
 pub const PLACES: usize = 4;
 
 // A hall: n servers on a mini-switch, top level k, local level b, and the number of DCell1s that are fitted.
-#[derive(Drop)]
+#[derive(Clone, Copy)]
 pub struct Hall {
     pub n: u32,
     pub k: u32,
@@ -27,7 +30,7 @@ pub struct Hall {
 }
 
 // The sizes of a hall: t(0) .. t(k), zeros above k.
-#[derive(Drop)]
+#[derive(Clone, Copy)]
 pub struct Sizes {
     pub refusal: u32,
     pub t: [u32; PLACES],

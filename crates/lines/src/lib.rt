@@ -1,4 +1,7 @@
 // The lines of a trace: what a sheet's trace says first, and the journey of each of its packets.
+
+#![tactic(auto)]
+
 ghost use Rattle.std.specs.Prelude.{◌≡◌, ◌-◌, ◌≤◌, length};
 ghost use Rattle.words.specs.Rooms.{put, room_of};
 ghost use Rattle.report.specs.Rooms.{written_of};
@@ -12,7 +15,7 @@ use sheet::Sheet;
 use sheetparts::SheetPacket;
 
 // The first line of a trace that is not written, and the place behind the text that is; or the refusal.
-#[derive(Drop)]
+#[derive(Clone, Copy)]
 pub struct Piece {
     pub refusal: u32,
     pub next: u32,

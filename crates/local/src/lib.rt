@@ -1,4 +1,7 @@
 // Distances inside a DCell(b) over its usable links, and the next hop that they give.
+
+#![tactic(auto)]
+
 ghost use Rattle.std.specs.Prelude.{◌≡◌, true, false, [], ◌∷◌, ◌+◌, ◌*◌, ◌≤◌, ◌<◌, length, replicate};
 ghost use Rattle.combine.specs.Tests.{pick, both, any_below};
 ghost use Rattle.hall.specs.Refusals.{refusal};
@@ -21,7 +24,7 @@ use hall::refusals::{BAD_HALL, BAD_LENGTH, BAD_UID};
 pub const NONE: u8 = 255;
 
 // The distances from one server, kept with it: the place of a server in the cell is its uid less the cell's first.
-#[derive(Drop)]
+#[derive(Clone, Copy)]
 pub struct Distances {
     pub refusal: u32,
     pub origin: u32,
@@ -30,7 +33,7 @@ pub struct Distances {
 }
 
 // The next hop's uid; found is 0 where there is none, else 1.
-#[derive(Drop)]
+#[derive(Clone, Copy)]
 pub struct NextHop {
     pub refusal: u32,
     pub found: u32,

@@ -1,4 +1,7 @@
 // The DCell1s of a hall that is fitted one by one: where the next one goes, and which servers are fitted.
+
+#![tactic(auto)]
+
 ghost use Rattle.std.specs.Prelude.{◌≡◌, true, ◌+◌, ◌*◌, ◌≤◌, ◌<◌};
 ghost use Rattle.combine.specs.Tests.{pick};
 ghost use Rattle.combine.specs.Lists.{up_to};
@@ -12,7 +15,7 @@ use hall::refusals::{BAD_HALL, HALL_FULL};
 use hall::{Hall, PLACES};
 
 // The prefix of the next DCell1: place i holds a(i) for i from 2 to k, so that it is the tuple of the DCell1's first server.
-#[derive(Drop)]
+#[derive(Clone, Copy)]
 pub struct Prefix {
     pub refusal: u32,
     pub entries: [u32; PLACES],

@@ -1,4 +1,7 @@
 // Tables of port codes: which ports are up, the check of a hall table, and its part for a server.
+
+#![tactic(auto)]
+
 pub mod codes;
 
 ghost use Rattle.std.specs.Prelude.{◌≡◌, [], ◌+◌, ◌*◌, ◌≤◌, ◌<◌, drop};
@@ -14,7 +17,7 @@ use hall::refusals::{BAD_CODE, BAD_HALL, BAD_LENGTH, BAD_UID};
 const BLOCK: usize = 256;
 
 // A table check's answer: place is the first unknown code's index where the refusal is BAD_CODE, else 0.
-#[derive(Drop)]
+#[derive(Clone, Copy)]
 pub struct TableCheck {
     pub refusal: u32,
     pub place: u32,

@@ -1,4 +1,7 @@
 // The trace's text, line by line, written to lent room.
+
+#![tactic(auto)]
+
 mod lengths;
 mod puts;
 
@@ -20,14 +23,14 @@ const SPACE: u8 = 32;
 const NEWLINE: u8 = 10;
 
 // The place behind a line that was written; or the refusal, where the room is short.
-#[derive(Drop)]
+#[derive(Clone, Copy)]
 pub struct Written {
     pub refusal: u32,
     pub end: usize,
 }
 
 // What became of a packet.
-#[derive(Drop)]
+#[derive(Clone, Copy)]
 pub struct PacketReport {
     pub source: u32,
     pub dst: u32,

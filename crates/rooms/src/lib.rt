@@ -1,4 +1,7 @@
 // An answer told by its refusal's number and by its values in lent room.
+
+#![tactic(auto)]
+
 ghost use Rattle.std.specs.Prelude.{◌≡◌, ◌++◌, ◌≤◌, length, drop};
 ghost use Rattle.hall.specs.Rooms.{told, written};
 

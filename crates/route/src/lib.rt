@@ -1,4 +1,7 @@
 // Routes without failures: the route between two servers of a hall, and its first link above the local level.
+
+#![tactic(auto)]
+
 ghost use Rattle.std.specs.Prelude.{◌≡◌, ◌+◌, length, replicate, eqb};
 ghost use Rattle.std.proofs.lemmas.List.Edits.{sets};
 ghost use Rattle.combine.specs.Tests.{pick};
@@ -14,7 +17,7 @@ use hall::{Hall, PLACES};
 pub const LONGEST: usize = 16;
 
 // A route: its links, and its uids in order, zeros behind them.
-#[derive(Drop)]
+#[derive(Clone, Copy)]
 pub struct Route {
     pub refusal: u32,
     pub links: u32,
@@ -22,14 +25,14 @@ pub struct Route {
 }
 
 // The first link of a route above a level, or nothing.
-#[derive(Drop)]
+#[derive(Clone, Copy)]
 pub enum Crossing {
     Link { near: u32, far: u32, level: u32 },
     Nothing,
 }
 
 // The first link of a route above the hall's local level, or nothing; or the refusal.
-#[derive(Drop)]
+#[derive(Clone, Copy)]
 pub struct FirstLink {
     pub refusal: u32,
     pub link: Crossing,

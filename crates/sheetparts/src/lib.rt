@@ -1,4 +1,7 @@
 // The codes and the packets of a sheet, as parts of its bytes.
+
+#![tactic(auto)]
+
 ghost use Rattle.std.specs.Prelude.{◌≡◌};
 ghost use Rattle.sheet.specs.Answers.{codes_place};
 ghost use Rattle.sheetparts.specs.Parts.{codes_part, codes_of, packet_refused, packet_fields, packet_at};
@@ -11,7 +14,7 @@ use words::word_at;
 const COUNT_BYTES: usize = 4;
 
 // A packet of a sheet; or the refusal, and its place.
-#[derive(Drop)]
+#[derive(Clone, Copy)]
 pub struct SheetPacket {
     pub refusal: u32,
     pub place: u32,

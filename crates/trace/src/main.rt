@@ -1,4 +1,7 @@
 // Traces a night sheet: the sheet on standard input, the text on standard output.
+
+#![tactic(auto)]
+
 use libc::{STDIN_FILENO, STDOUT_FILENO};
 
 // One byte more than a sheet may have, so that a longer one is seen to be so.

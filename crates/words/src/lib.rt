@@ -1,4 +1,7 @@
 // Big-endian words, and bytes at a place of lent room.
+
+#![tactic(auto)]
+
 ghost use Rattle.std.specs.Prelude.{◌≡◌, ◌+◌, ◌≤◌, length};
 ghost use Rattle.std.proofs.lemmas.List.Edits.{sets};
 ghost use Rattle.words.specs.Words.{big_endian, words_bytes, word_at};

@@ -1,3 +1,0 @@
--- The laws.
-pub mod Tests
-pub mod Lists

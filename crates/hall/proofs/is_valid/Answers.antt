@@ -1,0 +1,57 @@
+-- `hall::is_valid` meets its contract: it asks of n, k, b and the count what the definition asks, in turn.
+use mathlib.Core.Path.{sym, ◌∙◌}
+use borrow.Author.Rules.{rules}
+use borrow.Author.Tests.{not-true, not-false}
+use Rattle.hall.specs.Halls.{valid}
+use Rattle.hall.proofs.Racks.{sized_fits}
+use Rattle.hall.proofs.is_valid.Goals as goal
+
+pub returns-then-not-n_fits : goal.returns-then-not-n_fits
+unfolding valid
+returns-then-not-n_fits c = let n = c.n_fits in rw (← n.ensures, not-true n.result c.if-not-n_fits.true-raw)
+
+pub returns-then-not-k_fits : goal.returns-then-not-k_fits
+unfolding valid
+returns-then-not-k_fits c =
+    let k = c.k_fits in
+    let n = c.n_fits in
+    rw (← n.ensures, not-false n.result c.if-not-n_fits.false-raw, ← k.ensures, not-true k.result c.if-not-k_fits.true-raw)
+
+pub returns-then-not-b_fits : goal.returns-then-not-b_fits
+unfolding valid
+returns-then-not-b_fits c =
+    let b = c.b_fits in
+    let k = c.k_fits in
+    let n = c.n_fits in
+    rw (
+      ← n.ensures,
+      not-false n.result c.if-not-n_fits.false-raw,
+      ← k.ensures,
+      not-false k.result c.if-not-k_fits.false-raw,
+      ← b.ensures,
+      not-true b.result c.if-not-b_fits.true-raw,
+    )
+
+pub count_fits-requires : goal.count_fits-requires
+count_fits-requires c =
+    let k = c.k_fits in
+    let n = c.n_fits in
+    sized_fits _ _
+    (sym n.ensures ∙ not-false n.result c.if-not-n_fits.false-raw)
+    (sym k.ensures ∙ not-false k.result c.if-not-k_fits.false-raw)
+
+pub returns : goal.returns
+unfolding valid
+returns c =
+    let b = c.b_fits in
+    let k = c.k_fits in
+    let n = c.n_fits in
+    rw (
+      ← n.ensures,
+      not-false n.result c.if-not-n_fits.false-raw,
+      ← k.ensures,
+      not-false k.result c.if-not-k_fits.false-raw,
+      ← b.ensures,
+      not-false b.result c.if-not-b_fits.false-raw,
+    )
+    c.count_fits.ensures

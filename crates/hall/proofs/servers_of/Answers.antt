@@ -1,0 +1,19 @@
+-- `hall::servers_of` meets its contract: a valid hall has its sizes.
+use borrow.Author.Rules.{rules}
+use borrow.Author.Tests.{not-true, not-false}
+use mathlib.Core.Path.{sym, ◌∙◌}
+use Rattle.hall.specs.Halls.{servers}
+use Rattle.hall.proofs.Growth.{valid_known}
+use Rattle.hall.proofs.servers_of.Goals as goal
+
+pub returns-then-not-is_valid : goal.returns-then-not-is_valid
+returns-then-not-is_valid c = let v = c.is_valid in rw (← v.ensures, not-true v.result c.if-not-is_valid.true-raw)
+
+pub size-requires : goal.size-requires
+size-requires c =
+    let v = c.is_valid in
+    (valid_known _ (sym v.ensures ∙ not-false v.result c.if-not-is_valid.false-raw)).sized
+
+pub returns : goal.returns
+unfolding servers
+returns c = let v = c.is_valid in rw (← v.ensures, not-false v.result c.if-not-is_valid.false-raw) c.size.ensures

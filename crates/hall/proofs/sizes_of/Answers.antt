@@ -1,0 +1,20 @@
+-- `hall::sizes_of` meets its contract: a valid hall has its sizes.
+use borrow.Author.Rules.{rules}
+use borrow.Author.Tests.{not-true, not-false}
+use mathlib.Core.Path.{sym, ◌∙◌}
+use Rattle.hall.specs.Refusals.{refusal}
+use Rattle.hall.proofs.Growth.{valid_known}
+use Rattle.hall.proofs.sizes_of.Goals as goal
+
+pub returns-then-not-is_valid : goal.returns-then-not-is_valid
+unfolding refusal
+returns-then-not-is_valid c = let v = c.is_valid in rw (← v.ensures, not-true v.result c.if-not-is_valid.true-raw)
+
+pub sizes_up_to-requires : goal.sizes_up_to-requires
+sizes_up_to-requires c =
+    let v = c.is_valid in
+    (valid_known _ (sym v.ensures ∙ not-false v.result c.if-not-is_valid.false-raw)).sized
+
+pub returns : goal.returns
+unfolding refusal
+returns c = let v = c.is_valid in rw (← v.ensures, not-false v.result c.if-not-is_valid.false-raw, c.sizes_up_to.ensures)
