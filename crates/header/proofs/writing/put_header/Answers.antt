@@ -1,0 +1,40 @@
+-- `header::writing::put_header` meets its contract: the words are the header's with the checksum as zero, and with it their bytes are the header's.
+use mathlib.Core.Path.{◌∙◌}
+use native.Mathlib.Omega.{arith}
+use lib.ListN.{get_or}
+use borrow.Author.Rules.{rules}
+use Rattle.frame.proofs.Rows.{words_fit}
+use Rattle.header.proofs.Written.{flag_small, sum_fits, third_is, third-word, sum_is, bytes_are}
+use Rattle.header.proofs.writing.put_header.Goals as goal
+
+pub sum_of-requires : goal.sum_of-requires
+sum_of-requires c =
+    let f = c.args.fields in
+    let n = words_fit f.has_proxy in
+    let w = c.header_words-words in
+    let k = c.count_of-count.ensures in
+    (omega (arith, n.0), omega (arith, n.1), omega (arith, third-word f w.result w.ensures, third_is f))
+
+pub overflow_add-words : goal.overflow_add-words
+overflow_add-words c =
+    let f = c.args.fields in
+    let w = c.header_words-words in
+    let k = c.count_of-count in
+    let s = sum_fits (λ i. get_or w.result i 0) k.result in
+    omega (arith, third-word f w.result w.ensures, third_is f, flag_small f.has_proxy, c.sum_of.ensures, c.requires.0)
+
+pub put_words-requires : goal.put_words-requires
+put_words-requires c =
+    let f = c.args.fields in
+    let n = words_fit f.has_proxy in
+    omega (arith, c.count_of-count.ensures, n.1, c.requires.1)
+
+pub returns : goal.returns
+returns c =
+    let a = c.args in
+    let w = c.header_words-words in
+    let k = c.count_of-count in
+    let s = c.sum_of in
+    c.put_words.ensures
+    ∙ bytes_are a.fields w.result w.ensures s.result k.result a.room.now
+    (s.ensures ∙ rw k.ensures (sum_is a.fields w.result w.ensures)) k.ensures

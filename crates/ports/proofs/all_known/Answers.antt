@@ -1,0 +1,19 @@
+-- `ports::all_known_lem` meets its contract: all codes are known exactly where the highest so far is, and each of what is left.
+use mathlib.Core.Path.{◌≡◌, sym, ◌∙◌}
+use Prim.Native.Nat.{◌-◌}
+use native.Mathlib.Omega.{arith}
+use lib.ListN.{length, drop}
+use borrow.Author.Rules.{rules}
+use Rattle.combine.specs.Tests.{both}
+use Rattle.ports.specs.Codes.{known, all_known}
+use Rattle.ports.proofs.Tables.{known_start, known_next, known_end}
+use Rattle.ports.proofs.all_known.Goals as goal
+
+pub loop-i-init : goal.loop-i-init
+loop-i-init c = known_start _
+
+pub loop-i-preserved : goal.loop-i-preserved
+loop-i-preserved c = sym (known_next _ _ _ _ c.loop-i-test.true c.higher-most.ensures) ∙ c.loop-i.invariant
+
+pub returns : goal.returns
+returns c = c.is_known.ensures ∙ sym (known_end _ _ _ c.loop-i-test.false) ∙ c.loop-i.invariant

@@ -1,0 +1,26 @@
+-- `ports::first_unknown` meets its contract: what is passed is known, so the first unknown of what is left is the table's.
+use mathlib.Core.Path.{◌≡◌, sym, ◌∙◌}
+use Prim.Native.Nat.{◌+◌, ◌-◌}
+use native.Mathlib.Omega.{arith}
+use lib.ListN.{length, drop}
+use borrow.Author.Rules.{rules}
+use borrow.Author.Tests.{not-true, not-false}
+use Rattle.ports.specs.Codes.{first_unknown}
+use Rattle.ports.proofs.Tables.{unknown_next, unknown_here, unknown_end}
+use Rattle.ports.proofs.first_unknown.Goals as goal
+
+pub loop-i-init : goal.loop-i-init
+loop-i-init c = c.known_blocks-i.ensures
+
+pub returns-then-not-is_known : goal.returns-then-not-is_known
+returns-then-not-is_known c =
+    let k = c.is_known in
+    sym (unknown_here _ _ c.loop-i-test.true (sym k.ensures ∙ not-true k.result c.if-not-is_known.true-raw)) ∙ c.loop-i.invariant
+
+pub loop-i-preserved : goal.loop-i-preserved
+loop-i-preserved c =
+    let k = c.is_known in
+    sym (unknown_next _ _ c.loop-i-test.true (sym k.ensures ∙ not-false k.result c.if-not-is_known.false-raw)) ∙ c.loop-i.invariant
+
+pub returns : goal.returns
+returns c = sym (unknown_end _ _ c.loop-i-test.false) ∙ c.loop-i.invariant

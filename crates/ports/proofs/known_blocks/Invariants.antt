@@ -1,0 +1,16 @@
+-- `ports::known_blocks` meets its contract: a block that is passed has known codes alone, so the first unknown of what is left is the table's.
+use mathlib.Core.Path.{◌≡◌, sym, ◌∙◌}
+use Prim.Native.Nat.{◌+◌, ◌-◌}
+use native.Mathlib.Omega.{arith}
+use lib.ListN.{length, drop}
+use borrow.Author.Rules.{rules}
+use borrow.Author.Tests.{not-false}
+use Rattle.ports.specs.Codes.{first_unknown}
+use Rattle.ports.proofs.Tables.{unknown_start, unknown_block}
+use Rattle.ports.proofs.known_blocks.Given as goal
+
+abbrev pub invariant-loop-from : goal.invariant-loop-from
+invariant-loop-from l = l.from + first_unknown (drop l.from l.table) ≡ first_unknown l.table
+
+abbrev pub decreases-loop-from : goal.decreases-loop-from
+decreases-loop-from l = length l.table - l.from

@@ -1,0 +1,15 @@
+-- `rooms::put` meets its contract: the words below i stand in the room, and the room behind them is as it was.
+use mathlib.Core.Path.{◌≡◌, refl, ◌∙◌}
+use Prim.Native.Nat.{◌-◌, ◌≤◌}
+use native.Mathlib.Omega.{arith}
+use borrow.Author.Rules.{rules}
+use lib.ListN.{length, length-set}
+use lib.Seq.{take_all}
+use Rattle.hall.proofs.Told.{Put, put_more}
+use Rattle.rooms.proofs.put.Given as goal
+
+abbrev pub invariant-loop-i : goal.invariant-loop-i
+invariant-loop-i l = (l.i ≤ length l.words) × (length l.room ≡ length l.initial.room) × (l.room ≡ Put l.words l.initial.room l.i)
+
+abbrev pub decreases-loop-i : goal.decreases-loop-i
+decreases-loop-i l = length l.words - l.i

@@ -1,0 +1,23 @@
+-- `sheet::fields::read_k` meets its contract: the byte is read, and the hall's own test decides.
+use mathlib.Core.Path.{sym, ◌∙◌}
+use borrow.Author.Tests.{not-true, not-false}
+use Rattle.hall.specs.Halls.{k_fits}
+use Rattle.hall.specs.Refusals.{bad_hall}
+use Rattle.sheet.proofs.Reading.{missed, failed, passed}
+use borrow.Author.Rules.{rules}
+use Rattle.sheet.proofs.fields.read_k.Goals as goal
+
+pub returns-in_default : goal.returns-in_default
+returns-in_default c =
+    let f = c.read_byte-byte in
+    missed _ 1 _ _ _ f.result f.ensures c.in_default.is (k_fits c.args.n) bad_hall
+
+pub returns-then-not-k_fits : goal.returns-then-not-k_fits
+returns-then-not-k_fits c =
+    let f = c.read_byte-byte in
+    failed _ 1 _ _ _ f.result f.ensures (k_fits c.args.n) bad_hall c.in-Value.is (sym c.k_fits.ensures ∙ not-true c.k_fits.result c.if-not-k_fits.true-raw)
+
+pub returns : goal.returns
+returns c =
+    let f = c.read_byte-byte in
+    passed _ 1 _ _ _ f.result f.ensures (k_fits c.args.n) bad_hall c.in-Value.is (sym c.k_fits.ensures ∙ not-false c.k_fits.result c.if-not-k_fits.false-raw)

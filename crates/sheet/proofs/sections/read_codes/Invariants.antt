@@ -1,0 +1,16 @@
+-- `sheet::sections::read_codes` meets its contract: what is left to read from the next place on is what the whole reads from the first.
+use mathlib.Core.Path.{◌≡◌, sym, ◌∙◌}
+use Prim.Native.Nat.{◌≤◌}
+use native.Mathlib.Omega.{arith}
+use borrow.Author.Rules.{rules}
+use lib.ListN.{length}
+use Rattle.sheet.specs.Formats.{read}
+use Rattle.sheet.specs.Sheets.{code, times}
+use Rattle.sheet.proofs.Reading.{times_none, times_more, times_stop, next_within}
+use Rattle.sheet.proofs.sections.read_codes.Given as goal
+
+abbrev pub invariant-loop-left : goal.invariant-loop-left
+invariant-loop-left l = (l.next ≤ length l.sheet) × (read (times l.left code) l.sheet l.next ≡ read (times l.count code) l.sheet l.at)
+
+abbrev pub decreases-loop-left : goal.decreases-loop-left
+decreases-loop-left l = l.left
