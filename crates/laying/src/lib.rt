@@ -2,4 +2,3 @@
 // and it has no function.
 
 #![tactic(auto)]
-

@@ -27,7 +27,7 @@ returns-then-first_fitted c =
     first_decides _ (known (goal.at.returns-then-first_fitted c).Else-size_of-eq0) f.result f.ensures c.if-first_fitted.true _ _ c.servers_in.ensures
 
 pub ranks_below-requires : goal.ranks_below-requires
-ranks_below-requires c = known c
+ranks_below-requires c = known (goal.at.ranks_below-requires c).Else-size_of-eq0
 
 pub returns : goal.returns
 returns c = c.ranks_below.ensures

@@ -73,7 +73,7 @@ pub loop-j-init : goal.loop-j-init
 loop-j-init c = begin c.args.n c.args.m c.args.uid _ _ refl refl
 
 pub overflow_add-s-in-loop-j : goal.overflow_add-s-in-loop-j
-overflow_add-s-in-loop-j c = omega (arith, (at_turn (goal.at.overflow_add-s-in-loop-j c).In-loop-j).ranges.s_fits)
+overflow_add-s-in-loop-j c = omega (arith, (at_turn (goal.at.overflow_add-s-in-loop-j c).In-loop-j).fits.s_fits)
 
 pub before_of-c-requires : goal.before_of-c-requires
 before_of-c-requires c =

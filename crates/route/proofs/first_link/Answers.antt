@@ -30,7 +30,9 @@ returns-then-s-ne0 c =
     c.no_link.ensures ∙ ap no_link k.1 ∙ first_no_hall a.h a.x a.y k.0
 
 pub bounds-sizes-k : goal.bounds-sizes-k
-bounds-sizes-k c = omega (arith, (given (goal.at.bounds-sizes-k c).After-struct_known-2-1).known.k_high)
+bounds-sizes-k c =
+    let s = c.sizes_of-s in
+    omega (arith, (sizes_known c.args.h s.result s.ensures c.if-s-ne0.false).known.k_high)
 
 pub returns-then-servers-x : goal.returns-then-servers-x
 returns-then-servers-x c =

@@ -31,7 +31,9 @@ returns-then-s-ne0 c =
     c.refused.ensures ∙ ap no_route k.1 ∙ route_no_hall a.h a.x a.y k.0
 
 pub bounds-sizes-k : goal.bounds-sizes-k
-bounds-sizes-k c = omega (arith, (given (goal.at.bounds-sizes-k c).After-struct_known-2-1).known.k_high)
+bounds-sizes-k c =
+    let s = c.sizes_of-s in
+    omega (arith, (sizes_known c.args.h s.result s.ensures c.if-s-ne0.false).known.k_high)
 
 pub returns-then-servers-x : goal.returns-then-servers-x
 returns-then-servers-x c =
@@ -66,4 +68,4 @@ pub returns : goal.returns
 returns c =
     let a = c.args in
     route-filled a.h a.x a.y c.sizes_of-s.result.t (given (goal.at.returns c).After-struct_known-2-1) (x_fits (goal.at.returns c).Else-servers-y) (y-fits (goal.at.returns c).Else-servers-y)
-    c.fill-next.result c.no_uids-uids.result c.fill-next.new.1.1.1.1.1.0 c.fill-next.ensures.next c.no_uids-uids.ensures c.fill-next.ensures.filled
+    c.fill-next.result c.no_uids-uids.result c.fill-next.new.uids c.fill-next.ensures.next c.no_uids-uids.ensures c.fill-next.ensures.filled
