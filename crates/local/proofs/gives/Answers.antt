@@ -1,0 +1,10 @@
+-- `local::gives` meets its contract: a server that is not reached before the round gives nothing, else its port 0 decides.
+use borrow.Author.Rules.{rules}
+use borrow.Author.Tests.{not-true, not-false}
+use Rattle.local.proofs.gives.Goals as goal
+
+pub returns-then-not-is_reached : goal.returns-then-not-is_reached
+returns-then-not-is_reached c = let f = c.is_reached in rw (← f.ensures, not-true f.result c.if-not-is_reached.true-raw)
+
+pub returns : goal.returns
+returns c = let f = c.is_reached in rw (← f.ensures, not-false f.result c.if-not-is_reached.false-raw) c.is_up.ensures

@@ -1,0 +1,52 @@
+-- `local::is_linked` meets its contract: on one switch its ports decide, else the link of level 1 where there is one.
+use mathlib.Core.Path.{sym, ◌∙◌}
+use native.Mathlib.Omega.{arith}
+use borrow.Author.Rules.{rules}
+use Rattle.hall.proofs.Growth.{valid_known}
+use Rattle.local.proofs.Linked.{linked_switch, linked-none, linked-other, linked-over}
+use Rattle.local.proofs.Beside.{switch_low, place_in, across_is}
+use Rattle.local.proofs.is_linked.Goals as goal
+
+pub on_switch-requires : goal.on_switch-requires
+on_switch-requires c = let v = valid_known _ c.requires.0 in omega arith
+
+pub returns-then-on_switch : goal.returns-then-on_switch
+returns-then-on_switch c =
+    c.both_up.ensures
+    ∙ linked_switch c.args.h c.args.table.now (valid_known c.args.h c.requires.0) c.args.x c.args.y (sym c.on_switch.ensures ∙ c.if-on_switch.true)
+
+pub returns-then-h-eq0 : goal.returns-then-h-eq0
+returns-then-h-eq0 c =
+    linked-none c.args.h c.args.table.now (valid_known c.args.h c.requires.0) c.args.x c.args.y
+    (sym c.on_switch.ensures ∙ c.if-on_switch.false) c.if-h-eq0.true
+
+pub nonzero_div-x : goal.nonzero_div-x
+nonzero_div-x c = let v = valid_known _ c.requires.0 in omega arith
+
+pub nonzero_rem-x : goal.nonzero_rem-x
+nonzero_rem-x c = let v = valid_known _ c.requires.0 in omega arith
+
+pub neighbour_place-requires : goal.neighbour_place-requires
+neighbour_place-requires c =
+    let v = valid_known c.args.h c.requires.0 in
+    let wide = c.if-h-eq0.false in
+    (v.n_high, place_in c.args.h c.args.table.now v wide c.args.x c.requires.1, switch_low c.args.h c.args.table.now v wide c.args.x c.requires.1)
+
+pub returns-then-neighbour_place-y : goal.returns-then-neighbour_place-y
+returns-then-neighbour_place-y c =
+    let v = valid_known c.args.h c.requires.0 in
+    let f = c.neighbour_place in
+    let wide = c.if-h-eq0.false in
+    linked-other c.args.h c.args.table.now v c.args.x c.args.y
+    (sym c.on_switch.ensures ∙ c.if-on_switch.false)
+    f.result (across_is c.args.h c.args.table.now v wide c.args.x c.requires.1 f.result f.ensures) wide c.if-neighbour_place-y.true
+
+pub returns : goal.returns
+returns c =
+    let v = valid_known c.args.h c.requires.0 in
+    let f = c.neighbour_place in
+    let wide = c.if-h-eq0.false in
+    c.both_up-2.ensures
+    ∙ linked-over c.args.h c.args.table.now v c.args.x c.args.y
+    (sym c.on_switch.ensures ∙ c.if-on_switch.false)
+    f.result (across_is c.args.h c.args.table.now v wide c.args.x c.requires.1 f.result f.ensures) wide c.if-neighbour_place-y.false

@@ -1,0 +1,14 @@
+-- `local::lowest_giving` meets its contract. The loop's invariant: what is left of the look for the lowest is the whole look.
+use mathlib.Core.Path.{◌≡◌, sym, ◌∙◌, ap}
+use Prim.Native.Nat.{ℕ, ◌≤◌, ◌-◌}
+use native.Mathlib.Omega.{arith}
+use Rattle.local.specs.Lowest.{lowest_from}
+use Rattle.local.specs.Looks.{gives_by}
+use Rattle.local.proofs.Lowest.{lowest-here, lowest-next, lowest-end}
+use Rattle.local.proofs.lowest_giving.Given as goal
+
+abbrev pub invariant-loop-z : goal.invariant-loop-z
+invariant-loop-z l = (l.z ≤ l.h.n) × (lowest_from (gives_by l.h l.table l.d l.r l.s) (l.h.n - l.z) l.z ≡ lowest_from (gives_by l.h l.table l.d l.r l.s) l.h.n 0)
+
+abbrev pub decreases-loop-z : goal.decreases-loop-z
+decreases-loop-z l = l.h.n - l.z

@@ -1,0 +1,105 @@
+-- `local::searched_hop` meets its contract. The loop's invariant: the record holds the marks before round r, none behind the cell, and round r
+-- does not reach x.
+use mathlib.Core.Path.{◌≡◌, ◌∙◌, sym, ap}
+use mathlib.Core.Bool.{false}
+use mathlib.Core.List.{List, ◌++◌}
+use Prim.Native.Nat.{ℕ, suc, ◌≤◌, ◌+◌, ◌-◌}
+use native.Mathlib.Omega.{arith}
+use borrow.Author.Rules.{rules}
+use borrow.Author.Tests.{not-true}
+use lib.ListN.{set, replicate}
+use Rattle.hall.proofs.Growth.{valid_known}
+use Rattle.search.specs.Rounds.{marks}
+use Rattle.search.specs.Reach.{reach}
+use Rattle.search.proofs.Loop.{loop_more}
+use Rattle.local.specs.Local.{places, none, cell_size, linked}
+use Rattle.local.proofs.Sizes.{cell_size_lem, size_fits}
+use Rattle.local.proofs.Rounds.{record_start, record_length}
+use Rattle.local.proofs.Meets.{starts_unmet, unmet_next, unmet_before, unmet-reads, hop_full, hop-idle, hop-met, still-unmet}
+use Rattle.local.proofs.searched_hop.Goals.{After-size_of-count}
+use Rattle.local.proofs.searched_hop.Goals as goal
+
+sized : (c : After-size_of-count) → c.size_of-count.result ≡ cell_size c.args.h
+sized c = cell_size_lem _ _ c.requires.0 c.size_of-count.ensures
+
+pub bounds-d-at : goal.bounds-d-at
+bounds-d-at c =
+    omega (arith, size_fits c.args.h (valid_known c.args.h c.requires.0))
+
+pub loop-rounds-init : goal.loop-rounds-init
+loop-rounds-init c =
+    let v = valid_known c.args.h c.requires.0 in (
+      omega arith,
+      ap (λ (l : List ℕ). set l c.args.y 0) c.unreached-d.ensures ∙ record_start c.args.h c.args.table.now c.args.y v c.requires.2,
+      starts_unmet c.args.h c.args.table.now v c.args.x c.args.y c.requires.1 c.requires.2 c.requires.3 c.requires.4,
+    )
+
+pub overflow_cast-rounds : goal.overflow_cast-rounds
+overflow_cast-rounds c =
+    omega (arith, sized (goal.at.overflow_cast-rounds c).After-size_of-count, size_fits c.args.h (valid_known c.args.h c.requires.0))
+
+pub one_round-requires : goal.one_round-requires
+one_round-requires c =
+    let v = valid_known c.args.h c.requires.0 in
+    let w = c.loop-rounds in
+    (c.requires.0, omega (arith, sized (goal.at.one_round-requires c).After-size_of-count, size_fits c.args.h v), record_length c.args.h c.args.table.now c.args.y w.rounds w.d v w.invariant.1)
+
+pub returns-then-not-one_round : goal.returns-then-not-one_round
+returns-then-not-one_round c =
+    let v = valid_known c.args.h c.requires.0 in
+    let w = c.loop-rounds in
+    let f = c.one_round in
+    let e = sized (goal.at.returns-then-not-one_round c).After-size_of-count in
+    e ∙ hop-idle c.args.h c.args.table.now v c.args.x c.args.y c.requires.1 c.requires.2 w.rounds w.d w.invariant.1
+    (unmet_before c.args.h c.args.table.now v c.args.x c.args.y c.requires.1 c.requires.2 w.rounds w.invariant.2)
+    (omega (arith, e)) (sym f.ensures.reaches ∙ not-true f.result c.if-not-one_round.true-raw)
+
+pub overflow_add-rounds : goal.overflow_add-rounds
+overflow_add-rounds c =
+    omega (arith, sized (goal.at.overflow_add-rounds c).After-size_of-count, size_fits c.args.h (valid_known c.args.h c.requires.0))
+
+pub lowest_met-z-requires : goal.lowest_met-z-requires
+lowest_met-z-requires c =
+    let v = valid_known c.args.h c.requires.0 in
+    let w = c.loop-rounds in
+    let e = sized (goal.at.lowest_met-z-requires c).After-size_of-count in (
+      c.requires.0,
+      c.requires.5,
+      c.requires.1,
+      e,
+      unmet-reads c.args.h c.args.table.now v c.args.x c.args.y c.requires.1 c.requires.2 (w.rounds + 1) _
+          (loop_more (linked c.args.h c.args.table.now) (cell_size c.args.h) none c.args.y (replicate (places - cell_size c.args.h) none) w.rounds w.d _ w.invariant.1 c.one_round.ensures.writes)
+          (unmet_next c.args.h c.args.table.now v c.args.x c.args.y c.requires.1 c.requires.2 w.rounds w.invariant.2)
+          (omega (arith, e, size_fits c.args.h v)),
+    )
+
+pub returns-then-z-count : goal.returns-then-z-count
+returns-then-z-count c =
+    let v = valid_known c.args.h c.requires.0 in
+    let w = c.loop-rounds in
+    let e = sized (goal.at.returns-then-z-count c).After-size_of-count in
+    hop-met c.args.h c.args.table.now v c.args.x c.args.y c.requires.1 c.requires.2 (w.rounds + 1) _
+    (loop_more (linked c.args.h c.args.table.now) (cell_size c.args.h) none c.args.y (replicate (places - cell_size c.args.h) none) w.rounds w.d _ w.invariant.1 c.one_round.ensures.writes)
+    (unmet_next c.args.h c.args.table.now v c.args.x c.args.y c.requires.1 c.requires.2 w.rounds w.invariant.2)
+    (omega (arith, e, size_fits c.args.h v)) _ c.lowest_met-z.ensures (omega (arith, e))
+
+pub loop-rounds-preserved : goal.loop-rounds-preserved
+loop-rounds-preserved c =
+    let v = valid_known c.args.h c.requires.0 in
+    let w = c.loop-rounds in
+    let e = sized (goal.at.loop-rounds-preserved c).After-size_of-count in
+    let more = loop_more (linked c.args.h c.args.table.now) (cell_size c.args.h) none c.args.y (replicate (places - cell_size c.args.h) none) w.rounds w.d _ w.invariant.1 c.one_round.ensures.writes in (
+      omega arith,
+      more,
+      still-unmet c.args.h c.args.table.now v c.args.x c.args.y c.requires.1 c.requires.2 (w.rounds + 1) _ more
+          (unmet_next c.args.h c.args.table.now v c.args.x c.args.y c.requires.1 c.requires.2 w.rounds w.invariant.2)
+          (omega (arith, e, size_fits c.args.h v)) _ c.lowest_met-z.ensures (omega (arith, e)),
+    )
+
+pub returns : goal.returns
+returns c =
+    let v = valid_known c.args.h c.requires.0 in
+    let w = c.loop-rounds in
+    let e = sized (goal.at.returns c).After-size_of-count in
+    e ∙ hop_full c.args.h c.args.table.now v c.args.x c.args.y c.requires.1 c.requires.2 w.rounds (omega (arith, e))
+    (unmet_before c.args.h c.args.table.now v c.args.x c.args.y c.requires.1 c.requires.2 w.rounds w.invariant.2)
