@@ -16,7 +16,9 @@ known : (c : Else-number-ne0) → valid c.args.h ≡ true
 known c = let a = c.args in sound_hall a.h a.table.now a.uid (sym c.refused-number.ensures ∙ c.if-number-ne0.false)
 
 sized : (c : After-size_of-count) → c.size_of-count.result ≡ cell_size c.args.h
-sized c = cell_size_lem _ _ (known c.before) c.size_of-count.ensures
+sized c =
+    let a = c.args in
+    cell_size_lem _ _ (sound_hall a.h a.table.now a.uid (sym c.refused-number.ensures ∙ c.if-number-ne0.false)) c.size_of-count.ensures
 
 pub returns-then-number-ne0 : goal.returns-then-number-ne0
 returns-then-number-ne0 c =

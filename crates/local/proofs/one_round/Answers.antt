@@ -14,6 +14,7 @@ use Rattle.local.specs.Local.{none, cell_size, linked}
 use Rattle.local.specs.Looks.{reached_by}
 use Rattle.local.proofs.Sizes.{size_fits, switch-below, place-below}
 use Rattle.local.proofs.Rounds.{round_starts, round_starts_any, filled_length, live_on, switch-starts, switch-starts-any, switch-ends, switch-ends-any}
+use Rattle.local.proofs.one_round.Goals.{then-is_new, else-is_new}
 use Rattle.local.proofs.one_round.Goals as goal
 
 pub switches-count-requires : goal.switches-count-requires
@@ -92,15 +93,15 @@ loop-i-preserved c =
       w.invariant.1,
       w.invariant.2,
       rw (sym e)
-          (⊎_elim
-          (λ a. a.2 ∙ fill-new (linked c.args.h c.args.table.now) (cell_size c.args.h) none c.args.r _ (omega arith) x w.d _ w.invariant.3 c.is_new.ensures k a.0.taken)
-          (λ b. b.1 ∙ fill-old (linked c.args.h c.args.table.now) (cell_size c.args.h) none c.args.r _ (omega arith) x w.d _ w.invariant.3 c.is_new.ensures k b.0.left)
-          c.if-is_new.branch),
+          (elim c.if-is_new.branch [
+            | then-is_new b ↦ b.d-is ∙ fill-new (linked c.args.h c.args.table.now) (cell_size c.args.h) none c.args.r _ (omega arith) x w.d _ w.invariant.3 c.is_new.ensures k b.if-is_new.true
+            | else-is_new b ↦ b.d-is ∙ fill-old (linked c.args.h c.args.table.now) (cell_size c.args.h) none c.args.r _ (omega arith) x w.d _ w.invariant.3 c.is_new.ensures k b.if-is_new.false
+          ]),
       rw (sym e)
-          (⊎_elim
-          (λ a. a.3 ∙ any-new (linked c.args.h c.args.table.now) (cell_size c.args.h) none c.args.r _ (omega arith) x w.d _ w.invariant.3 c.is_new.ensures k c.loop-s.any a.0.taken)
-          (λ b. b.2 ∙ any-old (linked c.args.h c.args.table.now) (cell_size c.args.h) none c.args.r _ (omega arith) x w.d _ w.invariant.3 c.is_new.ensures k c.loop-s.any w.any w.invariant.4 b.0.left)
-          c.if-is_new.branch),
+          (elim c.if-is_new.branch [
+            | then-is_new b ↦ b.any-is ∙ any-new (linked c.args.h c.args.table.now) (cell_size c.args.h) none c.args.r _ (omega arith) x w.d _ w.invariant.3 c.is_new.ensures k c.loop-s.any b.if-is_new.true
+            | else-is_new b ↦ b.any-is ∙ any-old (linked c.args.h c.args.table.now) (cell_size c.args.h) none c.args.r _ (omega arith) x w.d _ w.invariant.3 c.is_new.ensures k c.loop-s.any w.any w.invariant.4 b.if-is_new.false
+          ]),
     )
 
 pub loop-s-preserved : goal.loop-s-preserved
