@@ -1,0 +1,123 @@
+-- `ends::put_level` meets its contract: after p turns the codes for the first p places of the cell stand in the room.
+use mathlib.Core.Path.{◌≡◌, refl, ◌∙◌, ap}
+use Prim.Native.Nat.{ℕ, suc, ◌+◌, ◌-◌, ◌*◌, ◌/◌, ◌≤◌, ◌<◌}
+use native.Mathlib.Nat.{mod-lt, div-add-mod', mul-le-mul_right}
+use native.Mathlib.Numerals.{add-one}
+use native.Mathlib.Omega.{arith}
+use lib.ListN.{length}
+use borrow.Author.Rules.{rules}
+use Rattle.hall.specs.Cells.{t, neighbour}
+use Rattle.hall.proofs.Growth.{valid_known, valid_size, size_of_lem}
+use Rattle.cells.specs.declared.Neighbour.{Neighbour}
+use Rattle.cells.proofs.Asks.{neighbour_told}
+use Rattle.local.specs.Local.{cell_size, first_of}
+use Rattle.local.proofs.Sizes.{cell_size_lem, size_pos}
+use Rattle.ends.specs.Tables.{levels, far_code}
+use Rattle.ends.specs.Filling.{spread}
+use Rattle.ends.proofs.Spread.{length-spread}
+use Rattle.ends.proofs.Codes.{first_in_lem, size-some, far_is, far-fits, far_read, cell_few, levels_few, all_far}
+use Rattle.ends.proofs.put_level.Goals.{After-code_at, After-neighbour_of-far, After-struct_known-1}
+use Rattle.ends.proofs.put_level.Goals as goal
+
+counted : (c : After-struct_known-1) → c.size_of-count.result ≡ cell_size c.args.h
+counted c = cell_size_lem _ _ c.requires.0 c.size_of-count.ensures
+
+sized : (c : After-struct_known-1) → let a = c.args in c.size_of-size.result ≡ t a.h.n (a.level - 1)
+sized c = let p = c.requires in size_of_lem _ _ _ p.0 (omega (arith, p.3)) c.size_of-size.ensures
+
+first_is : (c : After-struct_known-1) → let a = c.args in
+    a.uid / c.size_of-count.result * c.size_of-count.result ≡ first_of a.h a.uid
+unfolding first_of
+first_is c = ap (λ (m : ℕ). c.args.uid / m * m) (counted c)
+
+far-told : (c : After-neighbour_of-far) → let a = c.args in
+    let first = a.uid / c.size_of-count.result * c.size_of-count.result in
+    c.neighbour_of-far.result.uid ≡ neighbour a.h.n (a.level - 1) first
+unfolding first_of
+far-told c = ap (λ (r : Neighbour). r.uid) c.neighbour_of-far.ensures
+    ∙ neighbour_told _ _ _ c.requires.0 (rw ((let first_is : let a = c.args in a.uid / c.size_of-count.result * c.size_of-count.result ≡ first_of a.h a.uid = ap (λ (m : ℕ). c.args.uid / m * m) ((let counted : c.size_of-count.result ≡ cell_size c.args.h = cell_size_lem _ _ c.requires.0 c.size_of-count.ensures in counted)) in first_is)) (first_in_lem c.args.h c.requires.0 c.args.uid c.args.level c.requires.1 c.requires.2 c.requires.3)) (omega (arith, c.requires.2)) c.requires.3
+
+some : (c : After-neighbour_of-far) → 0 < c.size_of-size.result
+unfolding first_of
+some c = size-some c.args.h c.requires.0 c.args.uid c.args.level c.requires.1 c.requires.2 c.requires.3 _ _ _ _ ((let counted : c.size_of-count.result ≡ cell_size c.args.h = cell_size_lem _ _ c.requires.0 c.size_of-count.ensures in counted)) ((let sized : let a = c.args in c.size_of-size.result ≡ t a.h.n (a.level - 1) = let p = c.requires in size_of_lem _ _ _ p.0 (omega (arith, p.3)) c.size_of-size.ensures in sized)) ((let first_is : let a = c.args in a.uid / c.size_of-count.result * c.size_of-count.result ≡ first_of a.h a.uid = ap (λ (m : ℕ). c.args.uid / m * m) ((let counted : c.size_of-count.result ≡ cell_size c.args.h = cell_size_lem _ _ c.requires.0 c.size_of-count.ensures in counted)) in first_is)) (far-told c)
+
+-- the next place is in the room
+room-is : (c : After-code_at) → length c.loop-p.room ≡ length c.args.room.now
+room-is c = ap length c.loop-p.invariant.2 ∙ length-spread (levels c.args.h) c.args.room.now c.args.at (λ q. far_code c.args.h c.args.table.now (first_of c.args.h c.args.uid + q) c.args.level) c.loop-p.p
+
+stands-in : (c : After-code_at) → c.loop-p.next < length c.args.room.now
+stands-in c =
+    let l = c.loop-p in
+    let m : suc l.p * levels c.args.h ≤ c.size_of-count.result * levels c.args.h = mul-le-mul_right (levels c.args.h) c.loop-p-test.true in
+    omega (arith, m, l.invariant.1, all_far c.args.h c.requires.0 _ ((let counted : c.size_of-count.result ≡ cell_size c.args.h = cell_size_lem _ _ c.requires.0 c.size_of-count.ensures in counted)), c.requires.4)
+
+pub overflow_sub-level : goal.overflow_sub-level
+overflow_sub-level c = omega (arith, c.requires.2)
+
+pub overflow_sub-step : goal.overflow_sub-step
+overflow_sub-step c = omega (arith, (valid_known _ c.requires.0).b_low)
+
+pub overflow_cast-step : goal.overflow_cast-step
+overflow_cast-step c = omega (arith, levels_few _ c.requires.0)
+
+pub nonzero_div-first : goal.nonzero_div-first
+nonzero_div-first c = omega (arith, counted (goal.at.nonzero_div-first c).After-struct_known-1, size_pos _ (valid_known _ c.requires.0))
+
+pub overflow_mul-first : goal.overflow_mul-first
+overflow_mul-first c = omega (arith, div-add-mod' c.args.uid c.size_of-count.result)
+
+pub nonzero_rem-inside : goal.nonzero_rem-inside
+nonzero_rem-inside c = some (goal.at.nonzero_rem-inside c).After-neighbour_of-far
+
+pub nonzero_div-sub : goal.nonzero_div-sub
+nonzero_div-sub c = some (goal.at.nonzero_div-sub c).After-neighbour_of-far
+
+pub overflow_add-sub : goal.overflow_add-sub
+overflow_add-sub c = omega (arith, sized (goal.at.overflow_add-sub c).After-struct_known-1, valid_size c.args.h (valid_known c.args.h c.requires.0) (c.args.level - 1) (omega (arith, c.requires.3)))
+
+pub loop-p-init : goal.loop-p-init
+unfolding spread
+loop-p-init c = (omega arith, omega arith, refl)
+
+pub far_behind-requires : goal.far_behind-requires
+far_behind-requires c =
+    let m = mod-lt (c.args.uid / c.size_of-count.result * c.size_of-count.result) (some (goal.at.far_behind-requires c).After-neighbour_of-far) in
+    let f = far-fits c.args.h c.requires.0 c.args.uid c.args.level c.requires.1 c.requires.2 c.requires.3 _ _ _ _ (counted (goal.at.far_behind-requires c).After-struct_known-1) (sized (goal.at.far_behind-requires c).After-struct_known-1) (first_is (goal.at.far_behind-requires c).After-struct_known-1) (far-told (goal.at.far_behind-requires c).After-neighbour_of-far)
+    c.loop-p.p c.loop-p-test.true in
+    (omega (arith, m, c.loop-p-test.true, counted (goal.at.far_behind-requires c).After-struct_known-1, cell_few c.args.h c.requires.0, sized (goal.at.far_behind-requires c).After-struct_known-1, valid_size c.args.h (valid_known c.args.h c.requires.0) (c.args.level - 1) (omega (arith, c.requires.3))), omega (arith, f))
+
+pub code_at-requires : goal.code_at-requires
+code_at-requires c = c.requires.3
+
+pub bounds-room-next : goal.bounds-room-next
+bounds-room-next c = omega (arith, stands-in (goal.at.bounds-room-next c).After-code_at, room-is (goal.at.bounds-room-next c).After-code_at)
+
+pub overflow_add-next : goal.overflow_add-next
+overflow_add-next c = omega (arith, stands-in (goal.at.overflow_add-next c).After-code_at, levels_few _ c.requires.0)
+
+pub overflow_add-p : goal.overflow_add-p
+overflow_add-p c = omega (arith, c.loop-p-test.true)
+
+pub loop-p-smaller : goal.loop-p-smaller
+loop-p-smaller c = omega (arith, c.loop-p-test.true)
+
+pub loop-p-preserved : goal.loop-p-preserved
+unfolding spread
+loop-p-preserved c =
+    let l = c.loop-p in
+    let f = far_is c.args.h c.requires.0 c.args.uid c.args.level c.requires.1 c.requires.2 c.requires.3 _ _ _ _ (counted (goal.at.loop-p-preserved c).After-struct_known-1) (sized (goal.at.loop-p-preserved c).After-struct_known-1) (first_is (goal.at.loop-p-preserved c).After-struct_known-1) (far-told (goal.at.loop-p-preserved c).After-neighbour_of-far)
+    l.p c.loop-p-test.true in
+    let r = far_read c.args.h c.args.table.now (first_of c.args.h c.args.uid + l.p) c.args.level _ c.code_at.result c.code_at.ensures (c.far_behind.ensures ∙ f) in (
+      omega (arith, c.loop-p-test.true),
+      omega (arith, l.invariant.1),
+      rw (l.invariant.1, l.invariant.2, r, add-one l.p),
+    )
+
+pub shape_of-room : goal.shape_of-room
+shape_of-room c = ap length c.loop-p.invariant.2 ∙ length-spread (levels c.args.h) c.args.room.now c.args.at (λ q. far_code c.args.h c.args.table.now (first_of c.args.h c.args.uid + q) c.args.level) c.loop-p.p
+
+pub returns : goal.returns
+returns c =
+    let l = c.loop-p in
+    let e : l.p ≡ cell_size c.args.h = omega (arith, l.invariant.0, c.loop-p-test.false, counted (goal.at.returns c).After-struct_known-1) in
+    l.invariant.2 ∙ ap (spread c.args.room.now c.args.at (levels c.args.h) (λ q. far_code c.args.h c.args.table.now (first_of c.args.h c.args.uid + q) c.args.level)) e
