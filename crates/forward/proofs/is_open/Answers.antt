@@ -1,0 +1,21 @@
+-- `forward::is_open` meets its contract: the near code decides where it is not up, else the far one.
+use native.Mathlib.Omega.{arith}
+use borrow.Author.Tests.{not-true, not-false}
+use borrow.Author.Rules.{rules}
+use Rattle.forward.proofs.CodeTables.{far_there, open-not, open-far}
+use Rattle.forward.proofs.is_open.Goals as goal
+
+pub returns-then-not-is_up : goal.returns-then-not-is_up
+returns-then-not-is_up c = let f = c.is_up in open-not _ _ _ c.requires.0 _ _ f.ensures (not-true f.result c.if-not-is_up.true-raw)
+
+pub far_place-at-requires : goal.far_place-at-requires
+far_place-at-requires c = c.requires.0
+
+pub bounds-table-at : goal.bounds-table-at
+bounds-table-at c =
+    omega (arith, c.far_place-at.ensures, far_there _ _ _ c.requires.0 c.args.table.now c.requires.1)
+
+pub returns : goal.returns
+returns c =
+    let f = c.is_up in
+    open-far _ _ _ c.requires.0 _ _ f.ensures (not-false f.result c.if-not-is_up.false-raw) _ c.far_place-at.ensures

@@ -1,0 +1,31 @@
+-- `forward::is_up_at` meets its contract: what is lent has both codes, or the hall table has them at the server and at its neighbour.
+use mathlib.Core.Path.{◌∙◌}
+use borrow.Author.Tests.{not-true, not-false}
+use borrow.Author.Rules.{rules}
+use Rattle.forward.proofs.CodeSteps.{proxy_is}
+use Rattle.forward.proofs.CodeTables.{own_length, own_open, place-closed, neighbour-decides}
+use Rattle.forward.proofs.is_up_at.Goals as goal
+
+pub is_open-requires : goal.is_open-requires
+is_open-requires c = let a = c.requires in (a.1, own_length _ _ _ _ a.0 (not-true _ c.if-not-whole.true-raw))
+
+pub returns-then-not-whole : goal.returns-then-not-whole
+returns-then-not-whole c =
+    let a = c.args in
+    c.is_open.ensures ∙ own_open _ a.whole _ _ a.me _ (not-true a.whole c.if-not-whole.true-raw)
+
+pub uid_at-near-requires : goal.uid_at-near-requires
+uid_at-near-requires c = let a = c.requires in (a.0.sound, a.0.fits, a.1.inside)
+
+pub returns-then-not-is_up : goal.returns-then-not-is_up
+returns-then-not-is_up c =
+    let a = c.requires in
+    let f = c.is_up in
+    place-closed _ _ _ _ _ _ a.0 a.1 (not-false _ c.if-not-whole.false-raw) _ c.uid_at-near.ensures _ f.ensures (not-true f.result c.if-not-is_up.true-raw)
+
+pub returns : goal.returns
+returns c =
+    let a = c.requires in
+    let f = c.is_up in
+    neighbour-decides _ _ _ _ _ _ a.0 a.1 (not-false _ c.if-not-whole.false-raw) _ c.uid_at-near.ensures _ f.ensures (not-false f.result c.if-not-is_up.false-raw)
+    _ (proxy_is _ _ _ _ (record { above = a.1; fits = a.0.fits }) _ c.uid_at-near.ensures _ c.neighbour_of.ensures) _ c.is_up-2.ensures

@@ -1,0 +1,34 @@
+-- `forward::is_usable_at` meets its contract: a link counts where both its ends are up and both its servers fitted.
+use mathlib.Core.Path.{sym, ◌∙◌}
+use borrow.Author.Rules.{rules}
+use borrow.Author.Tests.{not-true, not-false}
+use Rattle.forward.proofs.CodeTables.{placed_servers, place-shut, place_full, place-fitted}
+use Rattle.forward.proofs.is_usable_at.Goals as goal
+
+pub returns-then-not-is_up_at : goal.returns-then-not-is_up_at
+returns-then-not-is_up_at c =
+    let a = c.requires in
+    let f = c.is_up_at in
+    place-shut _ _ _ _ _ _ _ a.0 a.1 f.ensures (not-true f.result c.if-not-is_up_at.true-raw)
+
+pub is_full-requires : goal.is_full-requires
+is_full-requires c = c.requires.0.sound
+
+pub returns-then-is_full : goal.returns-then-is_full
+returns-then-is_full c =
+    let a = c.requires in
+    let f = c.is_up_at in
+    let g = c.is_full in
+    place_full _ _ _ _ _ _ _ a.0 a.1 f.ensures (not-false f.result c.if-not-is_up_at.false-raw) (sym g.ensures ∙ c.if-is_full.true)
+
+pub proxy_of-requires : goal.proxy_of-requires
+proxy_of-requires c = let a = c.requires in record { above = a.1; fits = a.0.fits }
+
+pub are_fitted-requires : goal.are_fitted-requires
+are_fitted-requires c = let a = c.requires in placed_servers _ _ _ _ _ _ _ a.0 a.1 c.proxy_of.ensures
+
+pub returns : goal.returns
+returns c =
+    let a = c.requires in
+    let f = c.is_up_at in
+    place-fitted _ _ _ _ _ _ _ a.0 a.1 f.ensures (not-false f.result c.if-not-is_up_at.false-raw) _ c.proxy_of.ensures _ c.are_fitted.ensures

@@ -1,0 +1,48 @@
+-- `forward::own_part` meets its contract: the first bytes of what is lent, or the run of the hall table for the DCell(b).
+use mathlib.Core.Path.{◌≡◌, ◌∙◌}
+use native.Mathlib.Nat.{div-le_self}
+use native.Mathlib.Omega.{arith}
+use borrow.Author.Tests.{not-true, not-false}
+use borrow.Author.Rules.{rules}
+use Rattle.hall.proofs.Growth.{valid_known}
+use Rattle.ports.specs.Codes.{cell_length}
+use Rattle.local.proofs.Sizes.{cell_size_lem, size_pos}
+use Rattle.local.proofs.Asks.{bytes_are}
+use Rattle.forward.proofs.CodeTables.{own_within, own_first, part-within, part-first}
+use Rattle.forward.proofs.own_part.Goals.{After-bytes_of-bytes, After-bytes_of-lent}
+use Rattle.forward.proofs.own_part.Goals as goal
+
+lent-long : (c : After-bytes_of-lent) → let h = c.args.h in c.bytes_of-lent.result ≡ cell_length h h.b
+lent-long c =
+    c.bytes_of-lent.ensures ∙ bytes_are c.args.h _ (cell_size_lem _ _ c.requires.sound c.size_of.ensures)
+
+long : (c : After-bytes_of-bytes) → let h = c.args.h in c.bytes_of-bytes.result ≡ cell_length h h.b
+long c = c.bytes_of-bytes.ensures ∙ bytes_are c.args.h _ c.cell_size-cell.ensures
+
+pub slice_bounds-result-end : goal.slice_bounds-result-end
+slice_bounds-result-end c = own_within _ _ _ _ c.requires _ (lent-long (goal.at.slice_bounds-result-end c).After-bytes_of-lent) (not-true _ c.if-not-whole.true-raw)
+
+pub returns-then-not-whole : goal.returns-then-not-whole
+returns-then-not-whole c = own_first _ _ _ _ c.requires _ (lent-long (goal.at.returns-then-not-whole c).After-bytes_of-lent) (not-true _ c.if-not-whole.true-raw)
+
+pub cell_size-cell-requires : goal.cell_size-cell-requires
+cell_size-cell-requires c = c.requires.sound
+
+pub nonzero_div-from : goal.nonzero_div-from
+nonzero_div-from c = omega (arith, size_pos _ (valid_known _ c.requires.sound), c.cell_size-cell.ensures)
+
+pub overflow_cast-from : goal.overflow_cast-from
+overflow_cast-from c = omega (arith, div-le_self c.args.me c.cell_size-cell.result)
+
+pub overflow_mul-from : goal.overflow_mul-from
+overflow_mul-from c = omega (arith, part-within _ _ _ _ c.requires _ (long (goal.at.overflow_mul-from c).After-bytes_of-bytes) (not-false _ c.if-not-whole.false-raw) _ c.cell_size-cell.ensures)
+
+pub overflow_add-to : goal.overflow_add-to
+overflow_add-to c = omega (arith, part-within _ _ _ _ c.requires _ (long (goal.at.overflow_add-to c).After-bytes_of-bytes) (not-false _ c.if-not-whole.false-raw) _ c.cell_size-cell.ensures)
+
+pub slice_bounds-result-end-2 : goal.slice_bounds-result-end-2
+slice_bounds-result-end-2 c = part-within _ _ _ _ c.requires _ (long (goal.at.slice_bounds-result-end-2 c).After-bytes_of-bytes) (not-false _ c.if-not-whole.false-raw) _ c.cell_size-cell.ensures
+
+pub returns : goal.returns
+returns c =
+    part-first _ _ _ _ c.requires _ (long (goal.at.returns c).After-bytes_of-bytes) (not-false _ c.if-not-whole.false-raw) _ c.cell_size-cell.ensures

@@ -1,0 +1,12 @@
+-- `forward::travel` meets its contract: what is passed so far before what is left is the whole journey, and the TTL falls with each step.
+use native.Mathlib.Omega.{arith}
+use borrow.Author.Rules.{rules}
+use Rattle.counted.specs.Counted.{counted}
+use Rattle.forward.proofs.CodeTrips.{Underway, departs_counted, here_whole, sets_off, step_few, ttl-falls, ends-journey, goes_on}
+use Rattle.forward.proofs.travel.Given as goal
+
+abbrev pub invariant-loop-h : goal.invariant-loop-h
+invariant-loop-h l = Underway l.h (counted l.h 0 l.table) l.source l.initial.p l.uids l.me l.p l.reroutes l.at
+
+abbrev pub decreases-loop-h : goal.decreases-loop-h
+decreases-loop-h l = l.p.ttl

@@ -1,0 +1,30 @@
+-- `forward::turn` meets its contract: it goes by the link and by the choice as the definition does.
+use Rattle.forward.specs.Inside.{turn_of}
+use Rattle.forward.proofs.CodeSteps.{level_low, level-above, placed}
+use borrow.Author.Rules.{rules}
+use Rattle.forward.proofs.turn.Goals as goal
+
+pub first_level-requires : goal.first_level-requires
+first_level-requires c = level_low _ _ _ _ _ c.requires _ _ _ c.in-Link.is
+
+pub choose-requires : goal.choose-requires
+choose-requires c =
+    let a = c.requires in
+    (a.standing.here, level-above _ _ _ _ _ a _ _ _ c.in-Link.is _ _ c.first_level.ensures)
+
+pub proxy_of-requires : goal.proxy_of-requires
+proxy_of-requires c =
+    placed _ _ _ _ _ c.requires _ _ _ c.in-Link.is c.args.arrived _ c.first_level.ensures
+    _ _ c.choose.ensures _ _ c.in-At.is
+
+pub returns-in-Nothing : goal.returns-in-Nothing
+unfolding turn_of
+returns-in-Nothing c = rw (c.in-Nothing.is, c.cleared.ensures)
+
+pub returns-in-Nothing-choose : goal.returns-in-Nothing-choose
+unfolding turn_of
+returns-in-Nothing-choose c = rw (c.in-Link.is, ← c.first_level.ensures, ← c.choose.ensures, c.in-Nothing-choose.is)
+
+pub returns-in-At : goal.returns-in-At
+unfolding turn_of
+returns-in-At c = rw (c.in-Link.is, ← c.first_level.ensures, ← c.choose.ensures, c.in-At.is, c.proxied.ensures, c.proxy_of.ensures)
