@@ -27,8 +27,8 @@ BESIDE = {
 STOP = r"\s(){}\[\],;.\"`"
 TOKEN = re.compile(r"[^" + STOP + r"]+")
 TOP = re.compile(r"(?m)^(?:unfoldable |abbrev |pub )*([^\s:(){}]+)(?: \{[^}]*\})? :(?=\s)")
-TYPE = re.compile(r"(?m)^(?:pub )?(?:record|data) (\S+)")
-INSIDE = re.compile(r"(?m)^  (?:pub )?([^\s:(){}]+) :(?=\s)")
+TYPE = re.compile(r"(?m)^ *(?:pub )?(?:record|data) (\S+)")
+INSIDE = re.compile(r"(?m)^ +(?:unfoldable |abbrev |pub )*([^\s:(){}]+)(?: \{[^}]*\})? :(?=\s)")
 
 
 def tracked():
@@ -50,7 +50,7 @@ def declared(paths):
         for m in TOP.finditer(t):
             name = m.group(1)
             line = t[m.start():t.find("\n", m.start())]
-            if " tie." in line or name.endswith("-spec") or name.endswith("_spec"):
+            if " tie." in line or " goal." in line or name.endswith("-spec") or name.endswith("_spec"):
                 continue
             names[name].add(p)
             if "/specs/" in p and ("unfoldable" in line.split(":")[0] or "abbrev" in line.split(":")[0]):
@@ -61,6 +61,8 @@ def declared(paths):
         if "/Proof.antt" not in p:
             for m in INSIDE.finditer(t):
                 names[m.group(1)].add(p)
+                if "/specs/" in p and re.match(r" +(unfoldable|abbrev) ", m.group(0)):
+                    words.add(m.group(1))
     return words, names
 
 

@@ -24,7 +24,7 @@ use Rattle.search.specs.Rounds.{start, distances}
 use Rattle.search.specs.Reach.{Agree}
 use Rattle.search.proofs.Rounds.{length-marks, start_tail}
 use Rattle.search.proofs.Distance.{distances_agree}
-use Rattle.search.proofs.Counts.{reached-front, last-front, reached_tail, last_tail}
+use Rattle.search.proofs.Counts.{reached_front, last_front, reached_tail, last_tail}
 use Rattle.search.proofs.Cut.{start_other}
 use Rattle.plan.specs.Answers.{fitted}
 use Rattle.counted.specs.Counted.{counted}
@@ -32,7 +32,7 @@ use Rattle.broadcast.specs.declared.Broadcast.{Broadcast}
 use Rattle.broadcast.specs.Broadcasts.{none, scope_fits, scope_size, first_in, linked, rounds, rounds_of, tally_of, broadcast_refusal, broadcast_of, room_of}
 use Rattle.broadcast.specs.Sweeps.{fitted_places, Scoped, Behind, Ready}
 use Rattle.broadcast.proofs.Refusals.{scope_low, scope_two, scope_small}
-use Rattle.broadcast.proofs.Fitted.{rounds-unfitted, reached-unfitted, last-unfitted, Over, rounds_behind, places_unfitted, places-over, none-unfitted}
+use Rattle.broadcast.proofs.Fitted.{rounds_unfitted, reached_unfitted, last_unfitted, Over, rounds_behind, places_unfitted, places_over, none_unfitted}
 
 -- the size that the code works out is that of the scope's DCell
 pub scope_size_lem : (h : Hall) (s size : ℕ) → valid h ≡ true → scope_fits h s ≡ true → size ≡ size_of h s → size ≡ scope_size h s
@@ -73,8 +73,8 @@ module _ (h : Hall) (table : List ℕ) (u s : ℕ) (room : List ℕ) where
     pub scoped : Scoped h u s size
     scoped = record { sound = k.sound.is_valid; below = k.sound.below; scope = k.scope; size_is = size_is }
 
-    pub origin-low : u % size < size
-    origin-low = mod-lt u size_pos
+    pub origin_low : u % size < size
+    origin_low = mod-lt u size_pos
 
     -- the run of the table for the source's DCell(s)
     module _ (bytes : ℕ) (wide : bytes ≡ size * (h.k + 1)) where
@@ -101,43 +101,43 @@ module _ (h : Hall) (table : List ℕ) (u s : ℕ) (room : List ℕ) where
       -- none: the source alone
       module _ (nobody : count ≡ 0) where
         unfitted : fitted h u ≡ false
-        unfitted = none-unfitted h u s size scoped table (sym count_is ∙ nobody)
+        unfitted = none_unfitted h u s size scoped table (sym count_is ∙ nobody)
 
-        pub room-alone : mid ≡ room_of h table u s room
-        room-alone =
+        pub room_alone : mid ≡ room_of h table u s room
+        room_alone =
             begun
             ∙ ap (λ (m : ℕ). start m none (u % m) ++ drop m room) size_is
-            ∙ ap (λ (l : List ℕ). l ++ drop (scope_size h s) room) (sym (rounds-unfitted h table u s k.sound.is_valid k.scope unfitted))
+            ∙ ap (λ (l : List ℕ). l ++ drop (scope_size h s) room) (sym (rounds_unfitted h table u s k.sound.is_valid k.scope unfitted))
             ∙ rw (← e, z)
 
-        pub answer-alone : ◌≡◌ {A = Broadcast} (record { refusal = 0; reached = 1; last = 0 }) (broadcast_of h table u s room)
-        answer-alone =
+        pub answer_alone : ◌≡◌ {A = Broadcast} (record { refusal = 0; reached = 1; last = 0 }) (broadcast_of h table u s room)
+        answer_alone =
             let counts : ℕ → ℕ → Broadcast = λ a b. record { refusal = 0; reached = a; last = b } in
-            sym (ap₂ counts (reached-unfitted h table u s k.sound.is_valid k.scope unfitted) (last-unfitted h table u s k.sound.is_valid k.scope unfitted))
+            sym (ap₂ counts (reached_unfitted h table u s k.sound.is_valid k.scope unfitted) (last_unfitted h table u s k.sound.is_valid k.scope unfitted))
             ∙ rw (← e, z)
 
       -- some: the source is among them
       module _ (somebody : count ≡ 0 → ⊥) where
         over : Over h table u s count
-        over = rw count_is (places-over h u s size scoped table (cases (fitted h u) (λ w. w) (λ w. absurd (somebody (count_is ∙ sym (places_unfitted h u s size scoped w))))))
+        over = rw count_is (places_over h u s size scoped table (cases (fitted h u) (λ w. w) (λ w. absurd (somebody (count_is ∙ sym (places_unfitted h u s size scoped w))))))
 
-        origin-among : u % size < count
-        origin-among = rw size_is over.origin
+        origin_among : u % size < count
+        origin_among = rw size_is over.origin
 
         count_most : count ≤ size
         count_most = rw size_is over.most
 
-        mid-is : mid ≡ start count none (u % size) ++ (replicate (size - count) none ++ drop size room)
-        mid-is =
+        mid_is : mid ≡ start count none (u % size) ++ (replicate (size - count) none ++ drop size room)
+        mid_is =
             begun
-            ∙ ap (λ (l : List ℕ). l ++ drop size room) (start_tail (linked h table u s) count none size (u % size) origin-among count_most)
+            ∙ ap (λ (l : List ℕ). l ++ drop size room) (start_tail (linked h table u s) count none size (u % size) origin_among count_most)
             ∙ append_assoc (start count none (u % size)) (replicate (size - count) none) (drop size room)
 
-        length-first : length (start count none (u % size)) ≡ count
-        length-first = length-set {A = ℕ} (replicate count none) (u % size) 0 ∙ length-replicate {A = ℕ} count none
+        length_first : length (start count none (u % size)) ≡ count
+        length_first = length-set {A = ℕ} (replicate count none) (u % size) 0 ∙ length-replicate {A = ℕ} count none
 
-        length-mid : size ≤ length mid
-        length-mid = omega (arith, ap length begun, length-append (start size none (u % size)) (drop size room), length-start)
+        length_mid : size ≤ length mid
+        length_mid = omega (arith, ap length begun, length-append (start size none (u % size)) (drop size room), length-start)
 
         behind : Behind h s count mid
         unfolding scope_size
@@ -145,11 +145,11 @@ module _ (h : Hall) (table : List ℕ) (u s : ℕ) (room : List ℕ) where
             let w : y < size = rw size_is b in
             ap (λ (a : List ℕ). get_or a y 0) begun
             ∙ get_or-append (start size none (u % size)) (drop size room) 0 y (omega (arith, length-start))
-            ∙ start_other size none (u % size) origin-low y w (λ q. absurd (omega (arith, q, origin-among)))
+            ∙ start_other size none (u % size) origin_low y w (λ q. absurd (omega (arith, q, origin_among)))
 
-        pub begun-ready : Ready h s count (u % size) mid
+        pub begun_ready : Ready h s count (u % size) mid
         unfolding scope_size
-        begun-ready =
+        begun_ready =
             let v = valid_known h k.sound.is_valid in
             record {
               fits = record {
@@ -158,11 +158,11 @@ module _ (h : Hall) (table : List ℕ) (u s : ℕ) (room : List ℕ) where
                 scope_high = scope_two h s k.scope;
                 whole = over.whole;
                 most = over.most;
-                inside = rw (sym size_is) length-mid;
+                inside = rw (sym size_is) length_mid;
                 small = omega arith;
               };
-              low = origin-among;
-              begun = ap (λ (l : List ℕ). take count l) mid-is ∙ take_at (start count none (u % size)) (replicate (size - count) none ++ drop size room) count length-first;
+              low = origin_among;
+              begun = ap (λ (l : List ℕ). take count l) mid_is ∙ take_at (start count none (u % size)) (replicate (size - count) none ++ drop size room) count length_first;
               behind = behind;
             }
 
@@ -177,37 +177,37 @@ module _ (h : Hall) (table : List ℕ) (u s : ℕ) (room : List ℕ) where
         rounds_are : distances (joined h (run h table s u) s) count none (u % size) ++ replicate (size - count) none ≡ rounds_of h table u s
         rounds_are =
             ap (λ (l : List ℕ). l ++ replicate (size - count) none)
-            (distances_agree (joined h (run h table s u) s) (linked h table u s) count none (u % size) (omega (arith, count_most, size_is, scope_small h s k.sound.is_valid k.scope)) origin-among agree)
+            (distances_agree (joined h (run h table s u) s) (linked h table u s) count none (u % size) (omega (arith, count_most, size_is, scope_small h s k.sound.is_valid k.scope)) origin_among agree)
             ∙ ap (λ (m : ℕ). distances (linked h table u s) count none (u % m) ++ replicate (m - count) none) size_is
             ∙ sym over.rounds_are
 
         -- the room behind the rounds
-        module _ (part : List ℕ) (part-is : part ≡ run h table s u) (end : List ℕ) (ran : end ≡ distances (joined h part s) count none (u % size) ++ drop count mid) where
-          room-holds : end ≡ rounds_of h table u s ++ drop size room
-          room-holds =
+        module _ (part : List ℕ) (part_is : part ≡ run h table s u) (end : List ℕ) (ran : end ≡ distances (joined h part s) count none (u % size) ++ drop count mid) where
+          room_holds : end ≡ rounds_of h table u s ++ drop size room
+          room_holds =
               ran
-              ∙ ap (λ (l : List ℕ). distances (joined h l s) count none (u % size) ++ drop count mid) part-is
+              ∙ ap (λ (l : List ℕ). distances (joined h l s) count none (u % size) ++ drop count mid) part_is
               ∙ ap (λ (l : List ℕ). distances (joined h (run h table s u) s) count none (u % size) ++ l)
-              (ap (λ (l : List ℕ). drop count l) mid-is ∙ drop_at (start count none (u % size)) (replicate (size - count) none ++ drop size room) count length-first)
+              (ap (λ (l : List ℕ). drop count l) mid_is ∙ drop_at (start count none (u % size)) (replicate (size - count) none ++ drop size room) count length_first)
               ∙ sym (append_assoc (distances (joined h (run h table s u) s) count none (u % size)) (replicate (size - count) none) (drop size room))
               ∙ ap (λ (l : List ℕ). l ++ drop size room) rounds_are
 
           pub room_long : count ≤ length end
-          room_long = omega (arith, count_most, ap length room-holds, length-append (rounds_of h table u s) (drop size room), length-rounds)
+          room_long = omega (arith, count_most, ap length room_holds, length-append (rounds_of h table u s) (drop size room), length-rounds)
 
-          pub room-at-exit : end ≡ room_of h table u s room
-          room-at-exit = room-holds ∙ rw (← e, z, size_is)
+          pub room_at_exit : end ≡ room_of h table u s room
+          room_at_exit = room_holds ∙ rw (← e, z, size_is)
 
           -- nobody behind the places is reached, so the counts over them are the counts over all
-          pub answer-is : (o : Broadcast) → o ≡ tally_of count end → o ≡ broadcast_of h table u s room
-          answer-is o f =
+          pub answer_is : (o : Broadcast) → o ≡ tally_of count end → o ≡ broadcast_of h table u s room
+          answer_is o f =
               let d : List ℕ = rounds_of h table u s in
               let l : count ≤ length d = omega (arith, count_most, length-rounds) in
               let behind = rounds_behind h table u s count over in
               let counts : ℕ → ℕ → Broadcast = λ a b. record { refusal = 0; reached = a; last = b } in
               f
-              ∙ ap (λ (a : List ℕ). tally_of count a) room-holds
+              ∙ ap (λ (a : List ℕ). tally_of count a) room_holds
               ∙ ap₂ counts
-              (reached_tail none d (drop size room) count l ∙ sym (reached-front none d count (scope_size h s) over.most behind))
-              (last_tail none d (drop size room) count l ∙ sym (last-front none d count (scope_size h s) over.most behind))
+              (reached_tail none d (drop size room) count l ∙ sym (reached_front none d count (scope_size h s) over.most behind))
+              (last_tail none d (drop size room) count l ∙ sym (last_front none d count (scope_size h s) over.most behind))
               ∙ rw (← e, z)

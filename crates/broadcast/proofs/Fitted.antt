@@ -21,13 +21,13 @@ use Rattle.ports.proofs.Parts.{t_whole}
 use Rattle.search.specs.Rounds.{start, distances, reached_count, last_round}
 use Rattle.search.proofs.Rounds.{length-marks}
 use Rattle.search.proofs.Distance.{distances_agree}
-use Rattle.search.proofs.Cut.{reached-alone, last-alone, distances_alone, distances-front}
+use Rattle.search.proofs.Cut.{reached_alone, last_alone, distances_alone, distances_front}
 use Rattle.plan.specs.Answers.{fitted, is_fitted, front, fitted_servers}
 use Rattle.plan.proofs.Asks.{full_is, told_fitted}
 use Rattle.plan.proofs.Halls.{fitted_full}
-use Rattle.plan.proofs.Front.{front-servers, front_most}
+use Rattle.plan.proofs.Front.{front_servers, front_most}
 use Rattle.counted.specs.Counted.{counted}
-use Rattle.counted.proofs.Counted.{counted_full, cell-fitted}
+use Rattle.counted.proofs.Counted.{counted_full, cell_fitted}
 use Rattle.counted.proofs.Links.{joined_hall}
 use Rattle.broadcast.specs.Broadcasts.{none, scope_fits, scope_size, first_in, linked, rounds, rounds_of}
 use Rattle.broadcast.specs.Sweeps.{fitted_places, Scoped}
@@ -49,46 +49,46 @@ module _ (h : Hall) (table : List ℕ) (source s : ℕ) where
     unfolding scope_size
     origin_in = mod-lt source (valid_pos h (valid_known h v) s)
 
-    source-at : first_in h source s + source % scope_size h s ≡ source
+    source_at : first_in h source s + source % scope_size h s ≡ source
     unfolding first_in scope_size cell
-    source-at = div-add-mod' source (t h.n s)
+    source_at = div-add-mod' source (t h.n s)
 
     -- a link by places of the DCell(s): both servers fitted, and usable by the table
-    linked-counted : (y x : ℕ) → linked h (counted h 0 table) source s y x
+    linked_counted : (y x : ℕ) → linked h (counted h 0 table) source s y x
         ≡ both (both (fitted h (first_in h source s + y)) (fitted h (first_in h source s + x))) (linked h table source s y x)
     unfolding linked
-    linked-counted y x = joined_hall h n_pos table s (first_in h source s + y) (first_in h source s + x) (scope_low h s f)
+    linked_counted y x = joined_hall h n_pos table s (first_in h source s + y) (first_in h source s + x) (scope_low h s f)
 
     -- FROM A SERVER THAT IS NOT FITTED: THE SERVER ITSELF IN ROUND 0
     module _ (e : fitted h source ≡ false) where
-      pub rounds-unfitted : rounds_of h table source s ≡ start (scope_size h s) none (source % scope_size h s)
+      pub rounds_unfitted : rounds_of h table source s ≡ start (scope_size h s) none (source % scope_size h s)
       unfolding rounds
-      rounds-unfitted =
+      rounds_unfitted =
           let o : ℕ = source % scope_size h s in
-          let w : fitted h (first_in h source s + o) ≡ false = ap (fitted h) source-at ∙ e in
-          distances_alone (linked h (counted h 0 table) source s) (scope_size h s) none o origin_in few (λ x l. linked-counted o x ∙ rw w)
+          let w : fitted h (first_in h source s + o) ≡ false = ap (fitted h) source_at ∙ e in
+          distances_alone (linked h (counted h 0 table) source s) (scope_size h s) none o origin_in few (λ x l. linked_counted o x ∙ rw w)
 
-      pub reached-unfitted : reached_count none (rounds_of h table source s) (scope_size h s) ≡ 1
-      reached-unfitted =
-          ap (λ (l : List ℕ). reached_count none l (scope_size h s)) rounds-unfitted
-          ∙ reached-alone (scope_size h s) none (source % scope_size h s) origin_in (omega arith)
+      pub reached_unfitted : reached_count none (rounds_of h table source s) (scope_size h s) ≡ 1
+      reached_unfitted =
+          ap (λ (l : List ℕ). reached_count none l (scope_size h s)) rounds_unfitted
+          ∙ reached_alone (scope_size h s) none (source % scope_size h s) origin_in (omega arith)
 
-      pub last-unfitted : last_round none (rounds_of h table source s) (scope_size h s) ≡ 0
-      last-unfitted =
-          ap (λ (l : List ℕ). last_round none l (scope_size h s)) rounds-unfitted
-          ∙ last-alone (scope_size h s) none (source % scope_size h s) origin_in (omega arith)
+      pub last_unfitted : last_round none (rounds_of h table source s) (scope_size h s) ≡ 0
+      last_unfitted =
+          ap (λ (l : List ℕ). last_round none l (scope_size h s)) rounds_unfitted
+          ∙ last_alone (scope_size h s) none (source % scope_size h s) origin_in (omega arith)
 
     -- WITHIN A DCELL1: AS THE TABLE STANDS
     module _ (low : s < 2) (e : fitted h source ≡ true) where
-      whole-cell : (y : ℕ) → y < scope_size h s → fitted h (first_in h source s + y) ≡ true
+      whole_cell : (y : ℕ) → y < scope_size h s → fitted h (first_in h source s + y) ≡ true
       unfolding first_in scope_size
-      whole-cell y l = cell-fitted h n_pos s source (omega arith) y l ∙ e
+      whole_cell y l = cell_fitted h n_pos s source (omega arith) y l ∙ e
 
-      pub rounds-local : rounds_of h table source s ≡ rounds h table source s
+      pub rounds_local : rounds_of h table source s ≡ rounds h table source s
       unfolding rounds
-      rounds-local =
+      rounds_local =
           distances_agree (linked h (counted h 0 table) source s) (linked h table source s) (scope_size h s) none (source % scope_size h s) few origin_in
-          (λ y x ly lx. linked-counted y x ∙ rw (whole-cell y ly, whole-cell x lx))
+          (λ y x ly lx. linked_counted y x ∙ rw (whole_cell y ly, whole_cell x lx))
 
 -- in a full hall every DCell1 is fitted
 front_full : (h : Hall) → is_full h ≡ true → (first most : ℕ) → front h first most ≡ most
@@ -103,7 +103,7 @@ module _ (h : Hall) (table : List ℕ) (source : ℕ) (v : valid h ≡ true) (b 
   servers_are = rw (v, le-leb 2 h.k (scope_low h 2 f), lt-ltb source (servers h) b)
 
   among : (x : ℕ) → x < scope_size h 2 → fitted h (first_in h source 2 + x) ≡ ltb x (fitted_servers h source)
-  among x l = rw servers_are (unfold first_in scope_size in (front-servers h (n_pos h table source 2 v f) (cell h.n 2 source) x l))
+  among x l = rw servers_are (unfold first_in scope_size in (front_servers h (n_pos h table source 2 v f) (cell h.n 2 source) x l))
 
   pub servers_most : fitted_servers h source ≤ scope_size h 2
   unfolding scope_size t
@@ -112,15 +112,15 @@ module _ (h : Hall) (table : List ℕ) (source : ℕ) (v : valid h ≡ true) (b 
   pub source_among : fitted h source ≡ true → source % scope_size h 2 < fitted_servers h source
   source_among e =
       let o : ℕ = source % scope_size h 2 in
-      let w : fitted h (first_in h source 2 + o) ≡ true = ap (fitted h) (source-at h table source 2 v f) ∙ e in
+      let w : fitted h (first_in h source 2 + o) ≡ true = ap (fitted h) (source_at h table source 2 v f) ∙ e in
       ltb-true o (fitted_servers h source) (sym (among o (origin_in h table source 2 v f)) ∙ w)
 
   pub rounds_front : fitted h source ≡ true → rounds_of h table source 2
       ≡ distances (linked h table source 2) (fitted_servers h source) none (source % scope_size h 2) ++ replicate (scope_size h 2 - fitted_servers h source) none
   unfolding rounds
   rounds_front e =
-      distances-front (linked h table source 2) (linked h (counted h 0 table) source 2) (scope_size h 2) (fitted_servers h source) none (source % scope_size h 2)
-      servers_most (source_among e) (λ y x ly lx. linked-counted h table source 2 v f y x ∙ rw (among y ly, among x lx)) (few h table source 2 v f)
+      distances_front (linked h table source 2) (linked h (counted h 0 table) source 2) (scope_size h 2) (fitted_servers h source) none (source % scope_size h 2)
+      servers_most (source_among e) (λ y x ly lx. linked_counted h table source 2 v f y x ∙ rw (among y ly, among x lx)) (few h table source 2 v f)
 
   -- in a full hall all of them
   pub servers_full : is_full h ≡ true → fitted_servers h source ≡ scope_size h 2
@@ -190,9 +190,9 @@ module _ (h : Hall) (source s size : ℕ) (k : Scoped h source s size) where
 
   module _ (table : List ℕ) where
     -- a fitted source has rounds over the places of the fitted servers
-    pub places-over : fitted h source ≡ true → Over h table source s (fitted_places h source s)
+    pub places_over : fitted h source ≡ true → Over h table source s (fitted_places h source s)
     unfolding fitted_places rounds
-    places-over e = cases (ltb s 2) (λ l. rw (e, l) (local (ltb-true s 2 l))) (λ l. rw (e, l) (among_first (high (ltb-false s 2 l))))
+    places_over e = cases (ltb s 2) (λ l. rw (e, l) (local (ltb-true s 2 l))) (λ l. rw (e, l) (among_first (high (ltb-false s 2 l))))
       where
         pos : 0 < h.n
         pos = n_pos h table source s k.sound k.scope
@@ -205,7 +205,7 @@ module _ (h : Hall) (source s size : ℕ) (k : Scoped h source s size) where
               origin = origin_in h table source s k.sound k.scope;
               most = omega arith;
               whole = whole_of h.n (t_whole h.n 0 s (omega arith)).0 (scope_size h s) pos w;
-              rounds_are = rounds-local h table source s k.sound k.scope l e ∙ rw z (sym (append-nil (rounds h table source s)));
+              rounds_are = rounds_local h table source s k.sound k.scope l e ∙ rw z (sym (append-nil (rounds h table source s)));
             }
 
         among_first : s ≡ 2 → Over h table source s (fitted_servers h source)
@@ -221,5 +221,5 @@ module _ (h : Hall) (source s size : ℕ) (k : Scoped h source s size) where
             })
 
     -- only one that is not fitted has none
-    pub none-unfitted : fitted_places h source s ≡ 0 → fitted h source ≡ false
-    none-unfitted z = cases (fitted h source) (λ e. absurd (omega (arith, (places-over e).origin))) (λ e. e)
+    pub none_unfitted : fitted_places h source s ≡ 0 → fitted h source ≡ false
+    none_unfitted z = cases (fitted h source) (λ e. absurd (omega (arith, (places_over e).origin))) (λ e. e)

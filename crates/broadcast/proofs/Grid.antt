@@ -7,7 +7,7 @@ use lib.Dec.{ltb}
 use borrow.Author.Tests.{ltb-true, ltb-false}
 use Rattle.combine.proofs.Tests.{cases}
 use Rattle.hall.specs.Cells.{neighbour_over}
-use Rattle.hall.proofs.Place.{place_up, place-sub, place_inside, sub_below, made, inside_of}
+use Rattle.hall.proofs.Place.{place_up, place_sub, place_inside, sub_below, made, inside_of}
 use Rattle.broadcast.specs.Sweeps.{place_at, next_place, neighbour_at}
 
 -- the servers of the largest scope: a sub-cell has at most 72, and there are at most 73 of them
@@ -16,7 +16,7 @@ scope_product a b p q = omega (arith, mul-le-mul p q)
 
 -- the place of server r of sub-cell p of cell c
 pub place_of_lem : (T c p r x : ℕ) → r < T → p < T + 1 → x ≡ c * ((T + 1) * T) + (p * T + r) → place_at T x ≡ record { base = c * ((T + 1) * T); sub = p; inside = r }
-place_of_lem T c p r x hr hp e = rw (e, place_up T c p r hr hp, place-sub T c p r hr hp, place_inside T c p r hr)
+place_of_lem T c p r x hr hp e = rw (e, place_up T c p r hr hp, place_sub T c p r hr hp, place_inside T c p r hr)
 
 pub place_start : (T : ℕ) → 0 < T → record { base = 0; sub = 0; inside = 0 } ≡ place_at T 0
 place_start T pos =

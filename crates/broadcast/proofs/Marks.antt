@@ -126,11 +126,11 @@ module _ (q p : ℕ → Bool) (r : ℕ) (old mid room : List ℕ) (a b : Bool) (
   sweep_then = record {
     long = z.long ∙ s.long;
     each = then_each;
-    told = then-told;
+    told = then_told;
   }
     where
-      then-told : either a b ≡ any_below (fresh (λ y. either (q y) (p y)) old) (length old)
-      then-told =
+      then_told : either a b ≡ any_below (fresh (λ y. either (q y) (p y)) old) (length old)
+      then_told =
           ap (λ (k : Bool). either k b) s.told
           ∙ ap (λ (k : Bool). either (any_below (fresh q old) (length old)) k) (z.told ∙ ap (λ (k : ℕ). any_below (fresh p mid) k) s.long)
           ∙ sym (any_either (fresh q old) (fresh p mid) (length old))
@@ -174,12 +174,12 @@ module _ (q : ℕ → Bool) (r : ℕ) (old room : List ℕ) (any : Bool) (b : �
   pub sweep_store : fresh q old b ≡ true → Sweep (below q (b + 1)) r old (set room b (r + 1)) true
   sweep_store e = record {
     long = length-set {A = ℕ} room b (r + 1) ∙ s.long;
-    each = store-each;
+    each = store_each;
     told = sym (any_in (fresh (below q (b + 1)) old) (length old) b (fresh_inside q r old b e) (fresh_below q old b ∙ e));
   }
     where
-      store-each : (x : ℕ) → get_or (set room b (r + 1)) x 0 ≡ swept (below q (b + 1)) r old x
-      store-each x =
+      store_each : (x : ℕ) → get_or (set room b (r + 1)) x 0 ≡ swept (below q (b + 1)) r old x
+      store_each x =
           cases (eqb x b)
           (λ w.
           let g = eqb-true x b w in
@@ -187,10 +187,10 @@ module _ (q : ℕ → Bool) (r : ℕ) (old room : List ℕ) (any : Bool) (b : �
           rw g (get_or-set_same {A = ℕ} room b (r + 1) 0 l ∙ sym (swept_new (below q (b + 1)) r old b (fresh_below q old b ∙ e))))
           (λ w.
           let g = eqb-false x b w in
-          get_or-set_other {A = ℕ} room b x (r + 1) 0 g ∙ s.each x ∙ swept-other x g)
+          get_or-set_other {A = ℕ} room b x (r + 1) 0 g ∙ s.each x ∙ swept_other x g)
         where
-          swept-other : (x : ℕ) → (x ≡ b → ⊥) → swept (below q b) r old x ≡ swept (below q (b + 1)) r old x
-          swept-other x g =
+          swept_other : (x : ℕ) → (x ≡ b → ⊥) → swept (below q b) r old x ≡ swept (below q (b + 1)) r old x
+          swept_other x g =
               cases (fresh (below q b) old x)
               (λ f. swept_new (below q b) r old x f ∙ sym (swept_new (below q (b + 1)) r old x (sym (fresh_other q old b x g) ∙ f)))
               (λ f. swept_old (below q b) r old x f ∙ sym (swept_old (below q (b + 1)) r old x (sym (fresh_other q old b x g) ∙ f)))

@@ -16,12 +16,12 @@ use Rattle.combine.specs.Tests.{pick, both, either, any_below}
 use Rattle.combine.proofs.Tests.{cases, never, both_ways, both_left, both_right, both_false, both_either, either_false, any_in, any_some}
 use Rattle.hall.specs.declared.Hall.{Hall}
 use Rattle.hall.specs.Cells.{t, cell, neighbour}
-use Rattle.hall.proofs.Cells.{same_mono, neighbour-stays}
+use Rattle.hall.proofs.Cells.{same_mono, neighbour_stays}
 use Rattle.hall.proofs.Place.{sub_below}
 use Rattle.hall.proofs.Growth.{t_more, t_up}
 use Rattle.ports.specs.Codes.{up}
 use Rattle.ports.specs.Links.{both_up, joined, switch_has, touched}
-use Rattle.ports.proofs.Links.{same_below, any-joined}
+use Rattle.ports.proofs.Links.{same_below, any_joined}
 use Rattle.search.specs.Rounds.{leads, new, mark, round}
 use Rattle.search.proofs.Rounds.{length-round, round_at}
 use Rattle.search.proofs.Filled.{filled_behind}
@@ -109,17 +109,17 @@ module _ (h : Hall) (table : List ℕ) where
       ap (λ (k : ℕ). k / h.n) q ∙ digits_div s l
 
   module _ (p : ℕ → Bool) where
-    pub dead-switch : (s : ℕ) (old : List ℕ) (x : ℕ) → switch_has h table p s ≡ false → fresh (on_switch h table p s) old x ≡ false
+    pub dead_switch : (s : ℕ) (old : List ℕ) (x : ℕ) → switch_has h table p s ≡ false → fresh (on_switch h table p s) old x ≡ false
     unfolding on_switch touched
-    dead-switch s old x e =
+    dead_switch s old x e =
         fresh_fails (on_switch h table p s) old x
         (cases (between (s * h.n) (s * h.n + h.n) x)
         (λ b. rw (b, switch_of s x b, e) (both_false (up h table x 0) false refl))
         (λ b. rw b))
 
-    pub live-switch : (s : ℕ) (old : List ℕ) (x : ℕ) → switch_has h table p s ≡ true → fresh (open_on h table s) old x ≡ fresh (on_switch h table p s) old x
+    pub live_switch : (s : ℕ) (old : List ℕ) (x : ℕ) → switch_has h table p s ≡ true → fresh (open_on h table s) old x ≡ fresh (on_switch h table p s) old x
     unfolding open_on on_switch touched
-    live-switch s old x e =
+    live_switch s old x e =
         fresh_at (open_on h table s) (on_switch h table p s) old x
         (cases (between (s * h.n) (s * h.n + h.n) x)
         (λ b. rw (b, switch_of s x b, e) (both_yes (up h table x 0)))
@@ -130,14 +130,14 @@ module _ (h : Hall) (table : List ℕ) where
         both_yes false = refl
 
     -- switch by switch
-    pub switches-start : (old : List ℕ) (x : ℕ) → fresh (on_switches h table p (0 * h.n)) old x ≡ false
+    pub switches_start : (old : List ℕ) (x : ℕ) → fresh (on_switches h table p (0 * h.n)) old x ≡ false
     unfolding on_switches
-    switches-start old x = fresh_fails (on_switches h table p (0 * h.n)) old x (rw (le-ltb x (0 * h.n) (omega arith)))
+    switches_start old x = fresh_fails (on_switches h table p (0 * h.n)) old x (rw (le-ltb x (0 * h.n) (omega arith)))
 
-    pub switches-next : (s : ℕ) (old : List ℕ) (x : ℕ)
+    pub switches_next : (s : ℕ) (old : List ℕ) (x : ℕ)
         → fresh (λ y. either (on_switches h table p (s * h.n) y) (on_switch h table p s y)) old x ≡ fresh (on_switches h table p ((s + 1) * h.n)) old x
     unfolding on_switches on_switch
-    switches-next s old x =
+    switches_next s old x =
         let b : ℕ = s * h.n in
         let c : (s + 1) * h.n ≡ b + h.n = omega arith in
         fresh_at (λ y. either (on_switches h table p (s * h.n) y) (on_switch h table p s y)) (on_switches h table p ((s + 1) * h.n)) old x
@@ -145,20 +145,20 @@ module _ (h : Hall) (table : List ℕ) where
         ∙ ap (λ (k : Bool). both k (touched h table p 0 x)) (past b (b + h.n) x (omega arith) ∙ ap (λ (k : ℕ). ltb x k) (sym c)))
 
     -- level by level
-    pub links-start : (j : ℕ) (old : List ℕ) (x : ℕ) → fresh (below (over_link h table p j) 0) old x ≡ false
-    links-start j old x = fresh_fails (below (over_link h table p j) 0) old x (rw (le-ltb x 0 (omega arith)))
+    pub links_start : (j : ℕ) (old : List ℕ) (x : ℕ) → fresh (below (over_link h table p j) 0) old x ≡ false
+    links_start j old x = fresh_fails (below (over_link h table p j) 0) old x (rw (le-ltb x 0 (omega arith)))
 
     pub link_here : (j y : ℕ) (old : List ℕ) (x : ℕ) → y ≡ neighbour h.n j x → fresh (λ v. both (p y) (both_up h table (j + 1) y v)) old x ≡ fresh (over_link h table p j) old x
     unfolding over_link
     link_here j y old x e = fresh_at (λ v. both (p y) (both_up h table (j + 1) y v)) (over_link h table p j) old x (rw (e, add-one j))
 
-    pub levels-start : (size : ℕ) (old : List ℕ) (x : ℕ) → fresh (on_levels h table p size 0) old x ≡ false
+    pub levels_start : (size : ℕ) (old : List ℕ) (x : ℕ) → fresh (on_levels h table p size 0) old x ≡ false
     unfolding on_levels
-    levels-start size old x = fresh_fails (on_levels h table p size 0) old x refl
+    levels_start size old x = fresh_fails (on_levels h table p size 0) old x refl
 
-    pub levels-next : (size j : ℕ) (old : List ℕ) (x : ℕ) → fresh (λ y. either (on_levels h table p size j y) (on_links h table p size j y)) old x ≡ fresh (on_levels h table p size (j + 1)) old x
+    pub levels_next : (size j : ℕ) (old : List ℕ) (x : ℕ) → fresh (λ y. either (on_levels h table p size j y) (on_links h table p size j y)) old x ≡ fresh (on_levels h table p size (j + 1)) old x
     unfolding on_levels
-    levels-next size j old x = fresh_at (λ y. either (on_levels h table p size j y) (on_links h table p size j y)) (on_levels h table p size (j + 1)) old x (rw (add-one j))
+    levels_next size j old x = fresh_at (λ y. either (on_levels h table p size j y) (on_links h table p size j y)) (on_levels h table p size (j + 1)) old x (rw (add-one j))
 
     -- the switches, then the levels
     split : (size s x : ℕ) → either (on_switches h table p size x) (on_levels h table p size s x) ≡ within h table p size s x
@@ -174,16 +174,16 @@ module _ (h : Hall) (table : List ℕ) where
         regroup true b c = refl
         regroup false b c = refl
 
-    pub within-split : (size s : ℕ) (old : List ℕ) (x : ℕ)
+    pub within_split : (size s : ℕ) (old : List ℕ) (x : ℕ)
         → fresh (λ y. either (on_switches h table p size y) (on_levels h table p size s y)) old x ≡ fresh (within h table p size s) old x
-    within-split size s old x =
+    within_split size s old x =
         fresh_at (λ y. either (on_switches h table p size y) (on_levels h table p size s y)) (within h table p size s) old x (split size s x)
 
   -- the sweeps of a round make the round, where nobody behind their places is reached
   module _ (s size r : ℕ) (old room : List ℕ) (any : Bool) (fits : RoundFits h s size r old) (behind : Behind h s size old)
       (made : Sweep (within h table (reached_by r old) size s) r old room any) where
-    leads-front : (x : ℕ) → any_below (leads (joined h table s) r old x) size ≡ any_below (leads (joined h table s) r old x) (t h.n s)
-    leads-front x =
+    leads_front : (x : ℕ) → any_below (leads (joined h table s) r old x) size ≡ any_below (leads (joined h table s) r old x) (t h.n s)
+    leads_front x =
         any_front (leads (joined h table s) r old x) size (t h.n s) fits.most
         (λ y l b. rw (behind y l b, lt-leb none r (omega (arith, fits.small))))
 
@@ -194,8 +194,8 @@ module _ (h : Hall) (table : List ℕ) where
         (λ e.
         let z : reached_by r old x ≡ false = rw (eqb-true (get_or old x 0) none e) (lt-leb none r (omega (arith, fits.small))) in
         let b : x < t h.n s = omega (arith, fits.most) in
-        let j = any-joined h table (omega (arith, fits.n_low)) (reached_by r old) s x b z in
-        rw (e, lt-ltb x size l) (sym (leads-front x ∙ j)))
+        let j = any_joined h table (omega (arith, fits.n_low)) (reached_by r old) s x b z in
+        rw (e, lt-ltb x size l) (sym (leads_front x ∙ j)))
         (λ e. rw e)
 
     outside : (x : ℕ) → size ≤ x → fresh (within h table (reached_by r old) size s) old x ≡ false
@@ -218,14 +218,14 @@ module _ (h : Hall) (table : List ℕ) where
         ∙ swept_old (within h table (reached_by r old) size s) r old x (outside x b)
         ∙ sym (filled_behind (mark (joined h table s) size none r old) old size x b))
 
-    pub round-made : room ≡ round (joined h table s) size none r old
-    round-made =
+    pub round_made : room ≡ round (joined h table s) size none r old
+    round_made =
         ext_get_or {A = ℕ} 0 room (round (joined h table s) size none r old)
         (made.long ∙ sym (length-round (joined h table s) size none r old (omega (arith, fits.most, fits.inside))))
         (λ x l. same_number x)
 
-    pub any-made : any ≡ any_below (new (joined h table s) size none r old) size
-    any-made =
+    pub any_made : any ≡ any_below (new (joined h table s) size none r old) size
+    any_made =
         made.told
         ∙ both_ways (any_below (fresh (within h table (reached_by r old) size s) old) (length old)) (any_below (new (joined h table s) size none r old) size)
         (λ e.
@@ -255,7 +255,7 @@ module _ (h : Hall) (s size r : ℕ) (room : List ℕ) (fits : RoundFits h s siz
   neighbour_inside j x l b =
       let pos : 0 < h.n = omega (arith, fits.n_low) in
       let c : x < t h.n s = omega (arith, fits.most) in
-      let d = same_below h.n s x (neighbour h.n j x) pos (same_mono h.n {i = suc j} {j = s} x (neighbour h.n j x) l (neighbour-stays h.n pos j x)) c in
+      let d = same_below h.n s x (neighbour h.n j x) pos (same_mono h.n {i = suc j} {j = s} x (neighbour h.n j x) l (neighbour_stays h.n pos j x)) c in
       omega (arith, fits.inside)
 
   -- the same room behind a sweep, and the next round

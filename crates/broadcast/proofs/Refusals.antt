@@ -29,11 +29,11 @@ module _ (h : Hall) (table : List ℕ) (u s : ℕ) (room : List ℕ) where
     unfolding in_order
     decided = decided_after (asks_hall h ∷ asks_table h table ∷ asks_uid h u ∷ []) (asks_scope h s ∷ asks_room h s room ∷ []) refl refl z
 
-    pub scope-refused : scope_fits h s ≡ false → 11 ≡ broadcast_refusal h table u s room
-    scope-refused d = rw (decided, d)
+    pub scope_refused : scope_fits h s ≡ false → 11 ≡ broadcast_refusal h table u s room
+    scope_refused d = rw (decided, d)
 
-    pub room-refused : scope_fits h s ≡ true → length room < scope_size h s → 6 ≡ broadcast_refusal h table u s room
-    room-refused d e = rw (decided, d, lt-leb (scope_size h s) (length room) e)
+    pub room_refused : scope_fits h s ≡ true → length room < scope_size h s → 6 ≡ broadcast_refusal h table u s room
+    room_refused d e = rw (decided, d, lt-leb (scope_size h s) (length room) e)
 
     pub not_refused : scope_fits h s ≡ true → scope_size h s ≤ length room → 0 ≡ broadcast_refusal h table u s room
     not_refused d e = rw (decided, d, le-leb (scope_size h s) (length room) e)

@@ -12,12 +12,12 @@ use Rattle.combine.specs.Tests.{either, any_below}
 use Rattle.hall.specs.declared.Hall.{Hall}
 use Rattle.ports.specs.Links.{joined}
 use Rattle.search.specs.Rounds.{new, round, start, marks, distances}
-use Rattle.search.proofs.Rounds.{length-marks, marks_start, marks_more, tail-round, tail-any}
+use Rattle.search.proofs.Rounds.{length-marks, marks_start, marks_more, tail_round, tail_any}
 use Rattle.search.proofs.Stops.{Idle, idle_same, idle_ends}
 use Rattle.broadcast.specs.Broadcasts.{none}
 use Rattle.broadcast.specs.Sweeps.{Sweep, reached_by, on_switches, on_levels, within, RoundFits, Behind, Ready}
 use Rattle.broadcast.proofs.Marks.{sweep_cong, sweep_then}
-use Rattle.broadcast.proofs.Reaches.{reads_same, within-split, round-made, any-made, scope_fits_lem}
+use Rattle.broadcast.proofs.Reaches.{reads_same, within_split, round_made, any_made, scope_fits_lem}
 
 -- the sweep over the switches, then that over the levels
 pub sweeps_make : (h : Hall) (table : List ℕ) (s size r : ℕ) (old mid room : List ℕ) (a b : Bool) → RoundFits h s size r old
@@ -28,7 +28,7 @@ sweeps_make h table s size r old mid room a b fits f g =
     let same = reads_same (on_switches h table (reached_by r old) size) r old mid a (omega (arith, fits.small)) first in
     let then : Sweep (on_levels h table (reached_by r old) size s) r mid room b = rw same at g in
     sweep_cong (λ y. either (on_switches h table (reached_by r old) size y) (on_levels h table (reached_by r old) size s y)) (within h table (reached_by r old) size s) r old room (either a b)
-    (within-split h table (reached_by r old) size s old)
+    (within_split h table (reached_by r old) size s old)
     (sweep_then (on_switches h table (reached_by r old) size) (on_levels h table (reached_by r old) size s) r old mid room a b (omega (arith, fits.small)) first then)
 
 -- before the first round
@@ -59,16 +59,16 @@ module _ (h : Hall) (table : List ℕ) (s size o r : ℕ) (room next tail : List
     (now : room ≡ marks (joined h table s) size none o r ++ tail) (made : Sweep (within h table (reached_by r room) size s) r room next any) where
   pub next_marks : next ≡ marks (joined h table s) size none o (r + 1) ++ tail
   next_marks =
-      round-made h table s size r room next any fits behind made
+      round_made h table s size r room next any fits behind made
       ∙ ap (λ (l : List ℕ). round (joined h table s) size none r l) now
-      ∙ tail-round (joined h table s) size none (marks (joined h table s) size none o r) tail (length-marks (joined h table s) size none o r) r
+      ∙ tail_round (joined h table s) size none (marks (joined h table s) size none o r) tail (length-marks (joined h table s) size none o r) r
       ∙ ap (λ (l : List ℕ). l ++ tail) (sym (marks_more (joined h table s) size none o r))
 
   idle_now : (inside : o < size) → any ≡ false → Idle (joined h table s) size none o inside r
   idle_now inside e =
-      sym (tail-any (joined h table s) size none (marks (joined h table s) size none o r) tail (length-marks (joined h table s) size none o r) r)
+      sym (tail_any (joined h table s) size none (marks (joined h table s) size none o r) tail (length-marks (joined h table s) size none o r) r)
       ∙ ap (λ (l : List ℕ). any_below (new (joined h table s) size none r l) size) (sym now)
-      ∙ sym (any-made h table s size r room next any fits behind made)
+      ∙ sym (any_made h table s size r room next any fits behind made)
       ∙ e
 
   -- a round that reaches nobody is the last

@@ -14,7 +14,7 @@ use Rattle.hall.specs.declared.Hall.{Hall}
 use Rattle.hall.specs.Refusals.{refusal, short_room}
 use Rattle.hall.specs.Halls.{valid, servers}
 use Rattle.hall.specs.Rooms.{told, written}
-use Rattle.hall.proofs.Cells.{t-pos}
+use Rattle.hall.proofs.Cells.{t_pos}
 use Rattle.hall.proofs.Growth.{valid_known}
 use Rattle.ports.specs.Codes.{table_length}
 use Rattle.broadcast.specs.Broadcasts.{scope_fits, scope_size, broadcast_refusal, broadcast_of, room_of}
@@ -30,7 +30,7 @@ module _ (h : Hall) (table : List ℕ) (source scope : ℕ) where
 
   some_server : valid h ≡ true → 0 < scope_size h scope
   unfolding scope_size
-  some_server v = let k = valid_known h v in t-pos h.n (omega (arith, k.n_low)) scope
+  some_server v = let k = valid_known h v in t_pos h.n (omega (arith, k.n_low)) scope
 
   -- without room: the refusal with room, or 6 where there is none
   without_room : (rounds : List ℕ) → broadcast_refusal h table source scope []
@@ -71,26 +71,26 @@ module _ (h : Hall) (table : List ℕ) (source scope : ℕ) where
 
     -- the counts have no room
     module _ (short : length room < 2) where
-      told-without : told (of_broadcast (broadcast_of h table source scope rounds)) room ≡ broadcast_refusal h table source scope []
+      told_without : told (of_broadcast (broadcast_of h table source scope rounds)) room ≡ broadcast_refusal h table source scope []
       unfolding told
-      told-without =
+      told_without =
           rw (lt-ltb (length room) 2 short)
           (ap (λ (n : ℕ). pick (eqb n 0) short_room n) (refusal_told rounds) ∙ sym (without_room rounds))
 
-      pub short-told : (broadcast_of h table source scope []).refusal ≡ told (of_broadcast (broadcast_of h table source scope rounds)) room
-      short-told = refusal_told [] ∙ sym told-without
+      pub short_told : (broadcast_of h table source scope []).refusal ≡ told (of_broadcast (broadcast_of h table source scope rounds)) room
+      short_told = refusal_told [] ∙ sym told_without
 
-      pub short-rounds : rounds ≡ rounds_told h table source scope rounds room
-      short-rounds = rw (told-without, never_taken)
+      pub short_rounds : rounds ≡ rounds_told h table source scope rounds room
+      short_rounds = rw (told_without, never_taken)
 
-      pub short-counts : room ≡ written (of_broadcast (broadcast_of h table source scope rounds)) room
+      pub short_counts : room ≡ written (of_broadcast (broadcast_of h table source scope rounds)) room
       unfolding written
-      short-counts = rw (told-without, never_taken)
+      short_counts = rw (told_without, never_taken)
 
     -- the counts have room
-    pub long-rounds : 2 ≤ length room → room_of h table source scope rounds ≡ rounds_told h table source scope rounds room
+    pub long_rounds : 2 ≤ length room → room_of h table source scope rounds ≡ rounds_told h table source scope rounds room
     unfolding told
-    long-rounds l =
+    long_rounds l =
         cases (eqb number 0)
         (λ e. rw (le-ltb (length room) 2 l, e))
         (λ e. simp (le-ltb (length room) 2 l, e))

@@ -10,13 +10,13 @@ use Rattle.combine.specs.Tests.{both, either}
 use Rattle.combine.proofs.Tests.{cases, both_false, both_left, both_right, both_either}
 use Rattle.hall.specs.declared.Hall.{Hall}
 use Rattle.hall.specs.Cells.{t, cell, neighbour}
-use Rattle.hall.proofs.Cells.{neighbour-neighbour}
+use Rattle.hall.proofs.Cells.{neighbour_neighbour}
 use Rattle.ports.specs.Codes.{up}
 use Rattle.ports.specs.Links.{on_switch, both_up, joined}
 use Rattle.ports.proofs.Runs.{neighbour_shift}
 use Rattle.plan.specs.Answers.{fitted}
 use Rattle.counted.specs.Counted.{counted}
-use Rattle.counted.proofs.Counted.{port_switch, port_link, counted-up, cell-fitted}
+use Rattle.counted.proofs.Counted.{port_switch, port_link, counted_up, cell_fitted}
 
 -- two tests pulled out of a test on both ends
 both_out : (o f g a b : Bool) → both o (both (both f a) (both g b)) ≡ both (both f g) (both o (both a b))
@@ -39,7 +39,7 @@ module _ (h : Hall) (pos : 0 < h.n) (c i : ℕ) (table : List ℕ) where
   unfolding joined both_up
   joined_counted zero x y li =
       let C : ℕ = c * t h.n i in
-      rw (counted-up h C table x 0, counted-up h C table y 0, port_switch h (C + x), port_switch h (C + y))
+      rw (counted_up h C table x 0, counted_up h C table y 0, port_switch h (C + x), port_switch h (C + y))
       (both_out (on_switch h.n x y) (fitted h (C + x)) (fitted h (C + y)) (up h table x 0) (up h table y 0))
   joined_counted (suc j) x y li =
       let C : ℕ = c * t h.n i in
@@ -51,8 +51,8 @@ module _ (h : Hall) (pos : 0 < h.n) (c i : ℕ) (table : List ℕ) where
       (λ e.
       let q = eqb-true (neighbour h.n j x) y e in
       let nx : neighbour h.n j (C + x) ≡ C + y = neighbour_shift h.n pos i j c x li ∙ ap (λ (v : ℕ). C + v) q in
-      let ny : neighbour h.n j (C + y) ≡ C + x = ap (neighbour h.n j) (sym nx) ∙ neighbour-neighbour h.n pos j (C + x) in
-      rw (e, counted-up h C table x (suc j), counted-up h C table y (suc j), port_link h (C + x) j, port_link h (C + y) j, nx, ny)
+      let ny : neighbour h.n j (C + y) ≡ C + x = ap (neighbour h.n j) (sym nx) ∙ neighbour_neighbour h.n pos j (C + x) in
+      rw (e, counted_up h C table x (suc j), counted_up h C table y (suc j), port_link h (C + x) j, port_link h (C + y) j, nx, ny)
       (both_pair (fitted h (C + x)) (fitted h (C + y)) (up h table x (suc j)) (up h table y (suc j))))
       (λ e. rw e (sym (both_false F false refl))) in
       rw (ih, w) (sym (both_either F (joined h table j x y) (both (eqb (neighbour h.n j x) y) B)))
@@ -65,7 +65,7 @@ ups_counted h pos table j x =
     let y : ℕ = neighbour h.n j x in
     let zx : 0 + x ≡ x = omega arith in
     let zy : 0 + y ≡ y = omega arith in
-    rw (counted-up h 0 table x (suc j), counted-up h 0 table y (suc j), zx, zy, port_link h x j, port_link h y j, neighbour-neighbour h.n pos j x)
+    rw (counted_up h 0 table x (suc j), counted_up h 0 table y (suc j), zx, zy, port_link h x j, port_link h y j, neighbour_neighbour h.n pos j x)
     (both_pair (fitted h x) (fitted h y) (up h table x (suc j)) (up h table y (suc j)))
 
 -- the same over the hall table
@@ -95,10 +95,10 @@ module _ (h : Hall) (pos : 0 < h.n) (i u : ℕ) (low : i ≤ 1) (table : List �
   pub joined_local : fitted h u ≡ true → joined h (counted h (cell h.n i u * t h.n i) table) l x y ≡ joined h table l x y
   joined_local e =
       joined_counted h pos (cell h.n i u) i table l x y li
-      ∙ rw (cell-fitted h pos i u low x hx, cell-fitted h pos i u low y hy, e)
+      ∙ rw (cell_fitted h pos i u low x hx, cell_fitted h pos i u low y hy, e)
 
   -- and none for one that is not fitted
   pub joined_none : fitted h u ≡ false → joined h (counted h (cell h.n i u * t h.n i) table) l x y ≡ false
   joined_none e =
       joined_counted h pos (cell h.n i u) i table l x y li
-      ∙ rw (cell-fitted h pos i u low x hx, e)
+      ∙ rw (cell_fitted h pos i u low x hx, e)

@@ -74,8 +74,8 @@ module _ (h : Hall) (table : List ℕ) (u : ℕ) where
       part_sound = sound h table u none
 
       -- the part that the code was handed
-      pub part-is : part_of h table u ≡ part h table u
-      part-is = rw (eq-eqb (part_refusal h table u) 0 none)
+      pub part_is : part_of h table u ≡ part h table u
+      part_is = rw (eq-eqb (part_refusal h table u) 0 none)
 
       table_is : (of_step_table h table u).1 ≡ step_table h (counted h 0 table) u
       table_is = rw (eq-eqb (part_refusal h table u) 0 none)
@@ -83,19 +83,19 @@ module _ (h : Hall) (table : List ℕ) (u : ℕ) where
       long : length (of_step_table h table u).1 ≡ step_length h
       long = ap length table_is ∙ length-step h (counted h 0 table) u (counted_sound h table u part_sound)
 
-      pub table-short : length room < step_length h → (6 ≡ told (of_step_table h table u) room) × (room ≡ written (of_step_table h table u) room)
-      table-short l =
+      pub table_short : length room < step_length h → (6 ≡ told (of_step_table h table u) room) × (room ≡ written (of_step_table h table u) room)
+      table_short l =
           let k : length room < length (of_step_table h table u).1 = omega (arith, long) in (
             sym (told_short (part_refusal h table u) (of_step_table h table u).1 room none k),
             written_short (part_refusal h table u) (of_step_table h table u).1 room none k,
           )
 
-      pub table-told : step_length h ≤ length room → 0 ≡ told (of_step_table h table u) room
-      table-told l = sym (told_good (part_refusal h table u) (of_step_table h table u).1 room none (omega (arith, long)))
+      pub table_told : step_length h ≤ length room → 0 ≡ told (of_step_table h table u) room
+      table_told l = sym (told_good (part_refusal h table u) (of_step_table h table u).1 room none (omega (arith, long)))
 
       -- the table at the start of the room
-      pub table-written : step_length h ≤ length room → (bytes : List ℕ) → bytes ≡ step_table h (counted h 0 table) u
+      pub table_written : step_length h ≤ length room → (bytes : List ℕ) → bytes ≡ step_table h (counted h 0 table) u
           → bytes ++ drop (length bytes) room ≡ written (of_step_table h table u) room
-      table-written l bytes q =
+      table_written l bytes q =
           let k : length (of_step_table h table u).1 ≤ length room = omega (arith, long) in
           ap (λ (s : List ℕ). s ++ drop (length s) room) (q ∙ sym table_is) ∙ written_good (part_refusal h table u) (of_step_table h table u).1 room none k

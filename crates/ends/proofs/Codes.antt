@@ -13,7 +13,7 @@ use Rattle.combine.proofs.Tests.{cases}
 use Rattle.hall.specs.declared.Hall.{Hall}
 use Rattle.hall.specs.Cells.{t, cell, same, sub, neighbour}
 use Rattle.hall.specs.Halls.{top, valid, servers, largest}
-use Rattle.hall.proofs.Cells.{same_eq, same_sym, same_trans, same_mono, same_sub, same_up, cell_sub, neighbour_cells, t-pos}
+use Rattle.hall.proofs.Cells.{same_eq, same_sym, same_trans, same_mono, same_sub, same_up, cell_sub, neighbour_cells, t_pos}
 use Rattle.hall.proofs.Growth.{Valid, valid_known, uid_fits}
 use Rattle.hall.proofs.Links.{neighbour_in}
 use Rattle.ports.specs.Codes.{code_of, cell_length}
@@ -76,8 +76,8 @@ module _ (h : Hall) (is_valid : valid h ≡ true) (me level : ℕ) (here : me < 
 
   -- as the code has them: the cell's size, a sub-cell's, the first server and its neighbour
   module _ (count size first far : ℕ) (e : count ≡ cell_size h) (f : size ≡ t h.n (level - 1)) (g : first ≡ first_of h me) (k : far ≡ neighbour h.n (level - 1) first) where
-    pub size-some : 0 < size
-    size-some = rw f (t-pos h.n n_some (level - 1))
+    pub size_some : 0 < size
+    size_some = rw f (t_pos h.n n_some (level - 1))
 
     sub_is : first / size % (size + 1) ≡ sub h.n (level - 1) first
     unfolding cell
@@ -87,8 +87,8 @@ module _ (h : Hall) (is_valid : valid h ≡ true) (me level : ℕ) (here : me < 
     far_is p l =
         rw (sub_is, k, f, g) (sym (neighbour_more h.n (level - 1) (first_of h me) p (shares p (omega arith))))
 
-    pub far-fits : (p : ℕ) → p < count → far_behind far size (first % size) (first / size % (size + 1)) p < largest
-    far-fits p l =
+    pub far_fits : (p : ℕ) → p < count → far_behind far size (first % size) (first / size % (size + 1)) p < largest
+    far_fits p l =
         let m = uid_within h me p v here (omega arith) in
         rw (far_is p l) (uid_fits h v (neighbour h.n (level - 1) (first_of h me + p)) (unfold servers in (neighbour_in h.n n_some (level - 1) h.k (first_of h me + p) (omega arith) m)))
 

@@ -16,7 +16,7 @@ use Rattle.combine.proofs.Lists.{get_or-up_to, up_to_cong}
 use Rattle.hall.specs.declared.Hall.{Hall}
 use Rattle.hall.specs.Cells.{cell, neighbour}
 use Rattle.hall.specs.Halls.{valid, servers}
-use Rattle.hall.proofs.Cells.{neighbour-neighbour}
+use Rattle.hall.proofs.Cells.{neighbour_neighbour}
 use Rattle.hall.proofs.Growth.{valid_known}
 use Rattle.hall.proofs.Links.{neighbour_in}
 use Rattle.words.specs.Rooms.{put}
@@ -26,9 +26,9 @@ use Rattle.ports.proofs.Parts.{Sound}
 use Rattle.plan.specs.Answers.{fitted, is_fitted}
 use Rattle.plan.proofs.Asks.{told_fitted}
 use Rattle.counted.specs.Counted.{port_fitted, counted_at, counted}
-use Rattle.counted.proofs.Counted.{cell-fitted, port_link, counted-code, counted_sound, counted_part}
+use Rattle.counted.proofs.Counted.{cell_fitted, port_link, counted_code, counted_sound, counted_part}
 use Rattle.local.specs.Local.{cell_size, first_of}
-use Rattle.ends.specs.Tables.{levels, far_count, step_length, far_code, far_at, step_table}
+use Rattle.ends.specs.Tables.{levels, far_count, step_length, far_code, far_at_lem, step_table}
 use Rattle.ends.specs.Filling.{spread, layered, port_code, run_code, run_counted, table_counted}
 use Rattle.ends.proofs.Spread.{spread_ahead, spread_cong, layered_later, put_behind, layered_all}
 use Rattle.ends.proofs.Answers.{part_length, length-step}
@@ -36,21 +36,21 @@ use Rattle.ends.proofs.Answers.{part_length, length-step}
 module _ (h : Hall) (pos : 0 < h.n) where
   -- a port of a level above 1 counts where its far server is fitted, as the call tells
   module _ (is_valid : valid h ≡ true) (u port far : ℕ) (here : u < servers h) (low : 2 ≤ port) (high : port ≤ h.k) (k : far ≡ neighbour h.n (port - 1) u) where
-    far-here : neighbour h.n (port - 1) u < servers h
+    far_here : neighbour h.n (port - 1) u < servers h
     unfolding servers
-    far-here = neighbour_in h.n pos (port - 1) h.k u (omega arith) here
+    far_here = neighbour_in h.n pos (port - 1) h.k u (omega arith) here
 
-    pub port-told : (r : Bool) → r ≡ is_fitted h far → fitted h u ≡ true → port_fitted h u port ≡ r
-    port-told r q e =
+    pub port_told : (r : Bool) → r ≡ is_fitted h far → fitted h u ≡ true → port_fitted h u port ≡ r
+    port_told r q e =
         let z : suc (port - 1) ≡ port = omega arith in
-        let f : r ≡ fitted h (neighbour h.n (port - 1) u) = q ∙ ap (is_fitted h) k ∙ told_fitted h (neighbour h.n (port - 1) u) is_valid far-here in
+        let f : r ≡ fitted h (neighbour h.n (port - 1) u) = q ∙ ap (is_fitted h) k ∙ told_fitted h (neighbour h.n (port - 1) u) is_valid far_here in
         ap (port_fitted h u) (sym z) ∙ port_link h u (port - 1) ∙ rw (e, f)
 
   -- the far port of a link counts where the near one does
   pub far_port : (u j : ℕ) → port_fitted h (neighbour h.n j u) (suc j) ≡ port_fitted h u (suc j)
   far_port u j =
       port_link h (neighbour h.n j u) j
-      ∙ ap (λ (v : ℕ). both (fitted h (neighbour h.n j u)) (fitted h v)) (neighbour-neighbour h.n pos j u)
+      ∙ ap (λ (v : ℕ). both (fitted h (neighbour h.n j u)) (fitted h v)) (neighbour_neighbour h.n pos j u)
       ∙ both_swap (fitted h (neighbour h.n j u)) (fitted h u)
       ∙ sym (port_link h u j)
 
@@ -61,14 +61,14 @@ module _ (h : Hall) (pos : 0 < h.n) where
       let e : suc (i - 1) ≡ i = omega arith in
       let f : port_fitted h (neighbour h.n (i - 1) u) i ≡ port_fitted h u i = rw e at (far_port u (i - 1)) in
       let z : 0 + neighbour h.n (i - 1) u ≡ neighbour h.n (i - 1) u = omega arith in
-      counted-code h 0 table (neighbour h.n (i - 1) u) i ∙ rw (z, f)
+      counted_code h 0 table (neighbour h.n (i - 1) u) i ∙ rw (z, f)
 
 -- the servers of a DCell(b) are fitted together
 pub fitted_place : (h : Hall) → valid h ≡ true → (me p : ℕ) → p < cell_size h → fitted h (first_of h me + p) ≡ fitted h me
 unfolding first_of cell cell_size
 fitted_place h is_valid me p l =
     let v = valid_known h is_valid in
-    cell-fitted h (omega (arith, v.n_low)) h.b me v.b_high p l
+    cell_fitted h (omega (arith, v.n_low)) h.b me v.b_high p l
 
 -- the codes of a port of which the first p are counted, and then one more
 pub port_more : (h : Hall) (first port : ℕ) (room : List ℕ) (at step p server code : ℕ) → 0 < step → server ≡ first + p
@@ -130,7 +130,7 @@ module _ (h : Hall) (table : List ℕ) (me : ℕ) (s : Sound h table me) (room :
   near = part h (counted h 0 table) me
 
   abbrev far : List ℕ
-  far = up_to (far_at h (counted h 0 table) me) (far_count h)
+  far = up_to (far_at_lem h (counted h 0 table) me) (far_count h)
 
   near_at : (q : ℕ) → q < cell_length h h.b → get_or plain (0 + q) 0 ≡ get_or (part h table me) q 0
   unfolding step_table step_length
@@ -138,15 +138,15 @@ module _ (h : Hall) (table : List ℕ) (me : ℕ) (s : Sound h table me) (room :
       let z : 0 + q ≡ q = omega arith in
       rw z
       (get_or-append {A = ℕ} (step_table h table me) (drop (length (step_table h table me)) room) 0 q (omega (arith, length-step h table me s))
-      ∙ get_or-append {A = ℕ} (part h table me) (up_to (far_at h table me) (far_count h)) 0 q (omega (arith, part_length h table me s)))
+      ∙ get_or-append {A = ℕ} (part h table me) (up_to (far_at_lem h table me) (far_count h)) 0 q (omega (arith, part_length h table me s)))
 
-  far_at_lem : (q : ℕ) → q < far_count h → get_or plain (cell_length h h.b + q) 0 ≡ far_at h table me q
+  far_at_lem : (q : ℕ) → q < far_count h → get_or plain (cell_length h h.b + q) 0 ≡ far_at_lem h table me q
   unfolding step_table step_length
   far_at_lem q l =
       get_or-append {A = ℕ} (step_table h table me) (drop (length (step_table h table me)) room) 0 (cell_length h h.b + q) (omega (arith, length-step h table me s))
       ∙ ap (λ (i : ℕ). get_or (step_table h table me) (i + q) 0) (sym (part_length h table me s))
-      ∙ get_or-append-add {A = ℕ} (part h table me) (up_to (far_at h table me) (far_count h)) q 0
-      ∙ get_or-up_to (far_at h table me) (far_count h) q 0 l
+      ∙ get_or-append-add {A = ℕ} (part h table me) (up_to (far_at_lem h table me) (far_count h)) q 0
+      ∙ get_or-up_to (far_at_lem h table me) (far_count h) q 0 l
 
   -- the part, counted
   part_counted : run_counted h me 0 (h.k + 1) plain 0 ≡ put plain 0 near
@@ -170,9 +170,9 @@ module _ (h : Hall) (table : List ℕ) (me : ℕ) (s : Sound h table me) (room :
 
   -- and then the far codes, counted
   far_codes_counted : run_counted h me (h.b + 1) (levels h) (put plain 0 near) (cell_length h h.b) ≡ put (put plain 0 near) (cell_length h h.b) far
-  unfolding run_counted run_code far_at far_count
+  unfolding run_counted run_code far_at_lem far_count
   far_codes_counted = ap (put (put plain 0 near) (cell_length h h.b))
-      (up_to_cong (run_code h (first_of h me) (h.b + 1) (levels h) (put plain 0 near) (cell_length h h.b)) (far_at h (counted h 0 table) me) (far_count h)
+      (up_to_cong (run_code h (first_of h me) (h.b + 1) (levels h) (put plain 0 near) (cell_length h h.b)) (far_at_lem h (counted h 0 table) me) (far_count h)
       (λ q l.
       let i : ℕ = suc h.b + q % levels h in
       let z : h.b + 1 + q % levels h ≡ i = omega arith in

@@ -18,7 +18,7 @@ use Rattle.ports.proofs.Runs.{take_agrees, drop_agrees}
 use Rattle.local.specs.Local.{cell_size, first_of, counting}
 use Rattle.local.proofs.Uids.{first_shared}
 use Rattle.plan.specs.Answers.{fitted}
-use Rattle.counted.proofs.Counted.{counted-length, counted_ups, counted-usable}
+use Rattle.counted.proofs.Counted.{counted_length, counted_ups, counted_usable}
 use Rattle.ends.specs.Tables.{levels, step_length, cell_part, far_place, far_in, lent_counted}
 use Rattle.ends.proofs.Tables.{append_agrees}
 
@@ -33,7 +33,7 @@ unfolding lent_counted cell_part
 lent_ups h me a b e s =
     let m : ℕ = cell_length h h.b in
     append_agrees (counting h me (take m a)) (counting h me (take m b)) (drop m a) (drop m b)
-    (counted-length h (first_of h me) (take m a) ∙ length-take m a ∙ rw e (sym (length-take m b)) ∙ sym (counted-length h (first_of h me) (take m b)))
+    (counted_length h (first_of h me) (take m a) ∙ length-take m a ∙ rw e (sym (length-take m b)) ∙ sym (counted_length h (first_of h me) (take m b)))
     (counted_ups h (first_of h me) (take m a) (take m b) (take_agrees m a b s)) (drop_agrees m a b s)
 
 module _ (h : Hall) (me : ℕ) (lent : List ℕ) (long : length lent ≡ step_length h) where
@@ -42,7 +42,7 @@ module _ (h : Hall) (me : ℕ) (lent : List ℕ) (long : length lent ≡ step_le
   near_long = length-take (cell_length h h.b) lent ∙ omega arith
 
   counting_long : length (counting h me (cell_part h lent)) ≡ cell_length h h.b
-  counting_long = counted-length h (first_of h me) (cell_part h lent) ∙ near_long
+  counting_long = counted_length h (first_of h me) (cell_part h lent) ∙ near_long
 
   pub lent_part : cell_part h (lent_counted h me lent) ≡ counting h me (cell_part h lent)
   unfolding cell_part lent_counted
@@ -56,39 +56,39 @@ module _ (h : Hall) (me : ℕ) (lent : List ℕ) (long : length lent ≡ step_le
 
   module _ (place i : ℕ) (l : place < cell_size h) (low : h.b < i) (high : i ≤ h.k) where
     -- the far code stands as it is
-    pub lent-far : far_in h (lent_counted h me lent) place i ≡ far_in h lent place i
+    pub lent_far : far_in h (lent_counted h me lent) place i ≡ far_in h lent place i
     unfolding far_in far_place lent_counted
-    lent-far =
+    lent_far =
         let x : ℕ = place * levels h + (i - suc h.b) in
         rw (← counting_long)
         (get_or-append-add {A = ℕ} (counting h me (cell_part h lent)) (drop (length (counting h me (cell_part h lent))) lent) x 0
         ∙ get_or-drop {A = ℕ} (length (counting h me (cell_part h lent))) lent x 0)
 
-    near-place : place * (h.k + 1) + i < cell_length h h.b
+    near_place : place * (h.k + 1) + i < cell_length h h.b
     unfolding cell_length cell_size
-    near-place = let q : i < h.k + 1 = omega arith in digits_lt l q
+    near_place = let q : i < h.k + 1 = omega arith in digits_lt l q
 
     -- a near code is read in the cell's part
-    own-up : up h (cell_part h lent) place i ≡ up h lent place i
+    own_up : up h (cell_part h lent) place i ≡ up h lent place i
     unfolding up code_of cell_part
-    own-up = rw (le-leb i h.k high) (ap is_up (get_or-take {A = ℕ} (cell_length h h.b) lent (place * (h.k + 1) + i) 0 near-place))
+    own_up = rw (le-leb i h.k high) (ap is_up (get_or-take {A = ℕ} (cell_length h h.b) lent (place * (h.k + 1) + i) 0 near_place))
 
-    counting-up : up h (lent_counted h me lent) place i ≡ up h (counting h me (cell_part h lent)) place i
+    counting_up : up h (lent_counted h me lent) place i ≡ up h (counting h me (cell_part h lent)) place i
     unfolding up code_of lent_counted
-    counting-up =
+    counting_up =
         let c = counting_long in
-        let w : place * (h.k + 1) + i < length (counting h me (cell_part h lent)) = omega (arith, near-place) in
+        let w : place * (h.k + 1) + i < length (counting h me (cell_part h lent)) = omega (arith, near_place) in
         rw (le-leb i h.k high)
         (ap is_up (get_or-append {A = ℕ} (counting h me (cell_part h lent)) (drop (cell_length h h.b) lent) 0 (place * (h.k + 1) + i) w))
 
     -- and counts where both servers of its link are fitted
-    pub lent-near : Valid h → up h (lent_counted h me lent) place i
+    pub lent_near : Valid h → up h (lent_counted h me lent) place i
         ≡ both (both (fitted h me) (fitted h (neighbour h.n (i - 1) (first_of h me + place)))) (up h lent place i)
     unfolding cell_size first_of cell
-    lent-near v =
+    lent_near v =
         let e : suc (i - 1) ≡ i = omega arith in
-        counting-up
+        counting_up
         ∙ ap (up h (counting h me (cell_part h lent)) place) (sym e)
-        ∙ counted-usable h (omega (arith, v.n_low)) h.b me v.b_high (cell_part h lent) place (i - 1) l
+        ∙ counted_usable h (omega (arith, v.n_low)) h.b me v.b_high (cell_part h lent) place (i - 1) l
         ∙ ap (λ (p : ℕ). both (both (fitted h me) (fitted h (neighbour h.n (i - 1) (first_of h me + place)))) (up h (cell_part h lent) place p)) e
-        ∙ ap (both (both (fitted h me) (fitted h (neighbour h.n (i - 1) (first_of h me + place))))) own-up
+        ∙ ap (both (both (fitted h me) (fitted h (neighbour h.n (i - 1) (first_of h me + place))))) own_up

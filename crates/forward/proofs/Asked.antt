@@ -24,7 +24,7 @@ use Rattle.forward.specs.declared.Candidate.TheVariants as candidate
 use Rattle.forward.specs.Packets.{drop_route, cleared, proxied, retried, goal, sent, ended, one_more}
 use Rattle.forward.specs.Seen.{Seen}
 use Rattle.forward.specs.Proxies.{is_candidate, nearer_of, best_below, or_else, first_found, choice}
-use Rattle.forward.specs.Steps.{Reroute, reachable, across, from4, setProxy, firstLevel, rerouteOn, stepFrom, step_on}
+use Rattle.forward.specs.Steps.{Reroute, reachable, across, from4, set_proxy, first_level, reroute_on, step_from, step_on}
 use Rattle.forward.proofs.Links.{link_ahead}
 
 -- two searches that find the same at each of their levels
@@ -90,40 +90,40 @@ module _ (h : Hall) (is_valid : valid h ≡ true) (me : ℕ) (here : me < server
     Same r q = (link : Crossing) (p : Packet) (arrived : Bool) → Known link → r link p arrived ≡ q link p arrived
 
     module _ (r q : Reroute) (e : Same r q) where
-      across-same : (p : Packet) (arrived : Bool) (link : Crossing) → Known link → across h s me came r p arrived link ≡ across h z me came q p arrived link
+      across_same : (p : Packet) (arrived : Bool) (link : Crossing) → Known link → across h s me came r p arrived link ≡ across h z me came q p arrived link
       unfolding Same Known reachable
-      across-same p arrived Nothing k =
+      across_same p arrived Nothing k =
           ap (λ (o : Step). pick (not (eqb (distance (place_of h (goal p)) (place_of h me)) none)) (sent (first_of h me + hop (place_of h me) (place_of h (goal p))) p)
           (pick (same h.n h.b me came.dst) (ended drop_route came) o)) (e Nothing p arrived tt)
-      across-same p arrived (Link n1 n2 m) k =
+      across_same p arrived (Link n1 n2 m) k =
           let way : Step → Step = λ (o : Step). pick (not (eqb (distance (place_of h n1) (place_of h me)) none)) (sent (first_of h me + hop (place_of h me) (place_of h n1)) p)
           (pick (same h.n h.b me came.dst) (ended drop_route came) o) in
           ap (λ (b : Bool). pick b (pick (eqb me n1) (sent n2 p) (way (r (Link n1 n2 m) p arrived))) (r (Link n1 n2 m) p arrived))
           (agree m (place_of h n1) (place_fits h (valid_known h is_valid) n1) k.0 k.1)
           ∙ ap (λ (o : Step). pick (after m (place_of h n1)) (pick (eqb me n1) (sent n2 p) (way o)) o) (e (Link n1 n2 m) p arrived k)
 
-      from-same : (p : Packet) (arrived : Bool) → from4 h s me came r p arrived ≡ from4 h z me came q p arrived
-      from-same p arrived = across-same p arrived (first_link h me (goal p)) (first_known (goal p))
+      from_same : (p : Packet) (arrived : Bool) → from4 h s me came r p arrived ≡ from4 h z me came q p arrived
+      from_same p arrived = across_same p arrived (first_link h me (goal p)) (first_known (goal p))
 
-      set_same : (p : Packet) (c : Candidate) → setProxy h s me came r p c ≡ setProxy h z me came q p c
+      set_same : (p : Packet) (c : Candidate) → set_proxy h s me came r p c ≡ set_proxy h z me came q p c
       set_same p candidate.Nothing = refl
-      set_same p (candidate.At p1 i) = ap one_more (from-same (proxied (neighbour h.n (i - 1) (first_of h me + p1)) p) false)
+      set_same p (candidate.At p1 i) = ap one_more (from_same (proxied (neighbour h.n (i - 1) (first_of h me + p1)) p) false)
 
-    reroute-same : (n : ℕ) → Same (rerouteOn h s me came n) (rerouteOn h z me came n)
-    unfolding Same rerouteOn firstLevel Known
-    reroute-same zero link p arrived k = refl
-    reroute-same (suc zero) link p arrived k = refl
-    reroute-same (suc (suc f)) Nothing p arrived k =
-        ap one_more (from-same (rerouteOn h s me came (suc f)) (rerouteOn h z me came (suc f)) (reroute-same (suc f)) (cleared (retried (suc f) p)) false)
-    reroute-same (suc (suc f)) (Link n1 n2 m) p arrived k =
-        ap (setProxy h s me came (rerouteOn h s me came (suc f)) (retried (suc f) p)) (choice_same (place_of h me) (firstLevel h s me came m arrived) (omega (arith, k.0)))
-        ∙ set_same (rerouteOn h s me came (suc f)) (rerouteOn h z me came (suc f)) (reroute-same (suc f)) (retried (suc f) p)
-        (choice h z (place_of h me) (firstLevel h s me came m arrived))
+    reroute_same : (n : ℕ) → Same (reroute_on h s me came n) (reroute_on h z me came n)
+    unfolding Same reroute_on first_level Known
+    reroute_same zero link p arrived k = refl
+    reroute_same (suc zero) link p arrived k = refl
+    reroute_same (suc (suc f)) Nothing p arrived k =
+        ap one_more (from_same (reroute_on h s me came (suc f)) (reroute_on h z me came (suc f)) (reroute_same (suc f)) (cleared (retried (suc f) p)) false)
+    reroute_same (suc (suc f)) (Link n1 n2 m) p arrived k =
+        ap (set_proxy h s me came (reroute_on h s me came (suc f)) (retried (suc f) p)) (choice_same (place_of h me) (first_level h s me came m arrived) (omega (arith, k.0)))
+        ∙ set_same (reroute_on h s me came (suc f)) (reroute_on h z me came (suc f)) (reroute_same (suc f)) (retried (suc f) p)
+        (choice h z (place_of h me) (first_level h s me came m arrived))
 
-    from-retry : (p : Packet) (arrived : Bool) → stepFrom h s me came p arrived ≡ stepFrom h z me came p arrived
-    unfolding stepFrom
-    from-retry p arrived = from-same (rerouteOn h s me came p.retry) (rerouteOn h z me came p.retry) (reroute-same p.retry) p arrived
+    from_retry : (p : Packet) (arrived : Bool) → step_from h s me came p arrived ≡ step_from h z me came p arrived
+    unfolding step_from
+    from_retry p arrived = from_same (reroute_on h s me came p.retry) (reroute_on h z me came p.retry) (reroute_same p.retry) p arrived
 
   pub asked_same : (p : Packet) → step_on h s me p ≡ step_on h z me p
   unfolding step_on
-  asked_same p = rw (from-retry p (cleared p) true, from-retry p p false)
+  asked_same p = rw (from_retry p (cleared p) true, from_retry p p false)

@@ -19,7 +19,7 @@ use Rattle.forward.specs.Seen.{usable}
 use Rattle.forward.specs.Steps.{step_on}
 use Rattle.forward.specs.Journeys.{step_at}
 use Rattle.forward.specs.Before.{step_before}
-use Rattle.forward.proofs.Sight.{usable-every}
+use Rattle.forward.proofs.Sight.{usable_every}
 use Rattle.forward.proofs.Asked.{asked_same}
 
 module _ (h : Hall) (table : List ℕ) (me : ℕ) (s : Sound h table me) (all : EveryUp table) where
@@ -33,6 +33,6 @@ module _ (h : Hall) (table : List ℕ) (me : ℕ) (s : Sound h table me) (all : 
   all_up_before p =
       asked_same h s.is_valid me s.below (distance h (part h table me)) (hop h (part h table me))
       (λ i place. up h (part h table me) place i) (usable h (step_table h table me))
-      (λ i place l low high. near_every i place l high ∙ sym (usable-every h table me s i place l low high all)) (tidied p)
+      (λ i place l low high. near_every i place l high ∙ sym (usable_every h table me s i place l low high all)) (tidied p)
       ∙ ap (λ (cell : List ℕ). step_on h (record { distance = distance h cell; hop = hop h cell; usable = usable h (step_table h table me) }) me (tidied p))
       (sym (near_part h table me s))

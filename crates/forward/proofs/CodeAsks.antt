@@ -33,11 +33,11 @@ module _ (count me : ℕ) (p : Packet) (fit : Bool) (is : fit ≡ either (not p.
   by_tests = refusal_in_order (asks_below count me p) refl ∙ rw is
 
   module _ (me-fits : me < count) (dst_fits : p.dst < count) where
-    pub refuses-proxy : fit ≡ false → 2 ≡ refusal (asks_below count me p)
-    refuses-proxy e = sym (by_tests ∙ rw (lt-ltb me count me-fits, lt-ltb p.dst count dst_fits, e))
+    pub refuses_proxy : fit ≡ false → 2 ≡ refusal (asks_below count me p)
+    refuses_proxy e = sym (by_tests ∙ rw (lt-ltb me count me-fits, lt-ltb p.dst count dst_fits, e))
 
-    pub refuses-retry : fit ≡ true → most_retry < p.retry → 8 ≡ refusal (asks_below count me p)
-    refuses-retry e l = sym (by_tests ∙ rw (lt-ltb me count me-fits, lt-ltb p.dst count dst_fits, e, lt-leb p.retry most_retry l))
+    pub refuses_retry : fit ≡ true → most_retry < p.retry → 8 ≡ refusal (asks_below count me p)
+    refuses_retry e l = sym (by_tests ∙ rw (lt-ltb me count me-fits, lt-ltb p.dst count dst_fits, e, lt-leb p.retry most_retry l))
 
     pub refuses_nothing : fit ≡ true → p.retry ≤ most_retry → 0 ≡ refusal (asks_below count me p)
     refuses_nothing e l = sym (by_tests ∙ rw (lt-ltb me count me-fits, lt-ltb p.dst count dst_fits, e, le-leb p.retry most_retry l))

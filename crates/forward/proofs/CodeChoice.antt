@@ -21,7 +21,7 @@ use Rattle.local.specs.declared.Distances.{Distances}
 use Rattle.local.specs.Local.{none, cell_size, place_of, record_from, distance}
 use Rattle.local.specs.Answers.{distances_of}
 use Rattle.local.proofs.Linked.{record_at}
-use Rattle.local.proofs.Distance.{local-bounded}
+use Rattle.local.proofs.Distance.{local_bounded}
 use Rattle.local.proofs.Sizes.{size_fits, place_fits}
 use Rattle.forward.specs.declared.Candidate.{Candidate}
 use Rattle.forward.specs.declared.Candidate.TheVariants.{At, Nothing}
@@ -160,4 +160,4 @@ module _ {whole : Bool} (h : Hall) (table : List ℕ) (me : ℕ) (a : Here h who
       let v = valid_known h a.sound in
       let f = size_fits h v in
       ⊎_elim (λ (q : distance h own (place_of h me) place ≡ none). omega arith) (λ (q : distance h own (place_of h me) place < cell_size h). omega arith)
-      (local-bounded h own v (place_of h me) place (place_fits h v me) (omega (arith, count_is)))
+      (local_bounded h own v (place_of h me) place (place_fits h v me) (omega (arith, count_is)))

@@ -35,14 +35,14 @@ use Rattle.forward.specs.declared.Candidate.TheVariants as candidate
 use Rattle.forward.specs.Packets.{drop_ttl, drop_route, drop_retry, drop_proxy, delivered, cleared, tidied, proxied, retried, is_arrived, goal, sent, ended, one_more}
 use Rattle.forward.specs.Seen.{Seen}
 use Rattle.forward.specs.Proxies.{is_candidate, choice}
-use Rattle.forward.specs.Steps.{Reroute, reachable, across, from4, firstLevel, rerouted, setProxy, rerouteOn, stepFrom, step_on}
+use Rattle.forward.specs.Steps.{Reroute, reachable, across, from4, first_level, rerouted, set_proxy, reroute_on, step_from, step_on}
 use Rattle.forward.specs.Inside.{Here, Ahead, Sound, Standing, Stopped, Placed, cleared_if, way_to, way_over, outlook_by, outlook_of, turn_by, turn_of}
 use Rattle.forward.proofs.Passes.{step_passes}
 use Rattle.forward.proofs.Steps.{last_pass}
 use Rattle.forward.proofs.Trips.{tidied_dst, tidied_ttl, tidied_retry, tidied_fits}
 use Rattle.forward.proofs.Chosen.{choice_at}
 use Rattle.forward.proofs.Links as ahead
-use Rattle.forward.proofs.Hops.{Suits, proxy-in-hall, proxy-away}
+use Rattle.forward.proofs.Hops.{Suits, proxy_in_hall, proxy_away}
 
 -- a packet that tries again is told whole
 again_one : {p r : Packet} → Again p ≡ Again r → r ≡ p
@@ -61,14 +61,14 @@ turn_retry h s me (Link n1 n2 m) p arrived r e = again_retry h me p (choice h s 
 
 module _ (h : Hall) (s : Seen) (me : ℕ) (came : Packet) where
   -- 4 to 10 by what lies before the packet
-  abbrev onOutlook : Reroute → Packet → Bool → Outlook → Step
-  onOutlook reroute p arrived (Next u) = sent u p
-  onOutlook reroute p arrived NoRoute = ended drop_route came
-  onOutlook reroute p arrived (Blocked link) = reroute link p arrived
+  abbrev on_outlook : Reroute → Packet → Bool → Outlook → Step
+  on_outlook reroute p arrived (Next u) = sent u p
+  on_outlook reroute p arrived NoRoute = ended drop_route came
+  on_outlook reroute p arrived (Blocked link) = reroute link p arrived
 
   across_outlook : (reroute : Reroute) (p : Packet) (arrived : Bool) (link : Crossing)
       → across h s me came reroute p arrived link
-      ≡ onOutlook reroute p arrived (outlook_by h me came.dst link (way_over h s me (goal p) link))
+      ≡ on_outlook reroute p arrived (outlook_by h me came.dst link (way_over h s me (goal p) link))
   unfolding way_over way_to reachable
   across_outlook reroute p arrived Nothing =
       cases (eqb (s.distance (place_of h (goal p)) (place_of h me)) none)
@@ -84,67 +84,67 @@ module _ (h : Hall) (s : Seen) (me : ℕ) (came : Packet) where
       (λ u. rw u)
 
   module _ (p : Packet) (arrived : Bool) (o : Outlook) (is : o ≡ outlook_of h s me came.dst (goal p)) where
-    by-outlook : stepFrom h s me came p arrived ≡ onOutlook (rerouteOn h s me came p.retry) p arrived o
-    unfolding stepFrom outlook_of
-    by-outlook = across_outlook (rerouteOn h s me came p.retry) p arrived (first_link h me (goal p)) ∙ rw is
+    by_outlook : step_from h s me came p arrived ≡ on_outlook (reroute_on h s me came p.retry) p arrived o
+    unfolding step_from outlook_of
+    by_outlook = across_outlook (reroute_on h s me came p.retry) p arrived (first_link h me (goal p)) ∙ rw is
 
-    pub step_goes : (u : ℕ) (z : Step) → o ≡ Next u → z ≡ sent u p → z ≡ stepFrom h s me came p arrived
-    step_goes u z e q = q ∙ sym (by-outlook ∙ rw e)
+    pub step_goes : (u : ℕ) (z : Step) → o ≡ Next u → z ≡ sent u p → z ≡ step_from h s me came p arrived
+    step_goes u z e q = q ∙ sym (by_outlook ∙ rw e)
 
-    pub step-drops : (z : Step) → o ≡ NoRoute → z ≡ ended drop_route came → z ≡ stepFrom h s me came p arrived
-    step-drops z e q = q ∙ sym (by-outlook ∙ rw e)
+    pub step_drops : (z : Step) → o ≡ NoRoute → z ≡ ended drop_route came → z ≡ step_from h s me came p arrived
+    step_drops z e q = q ∙ sym (by_outlook ∙ rw e)
 
-    pub step-blocked : (link : Crossing) (z : Step) → o ≡ Blocked link → z ≡ rerouteOn h s me came p.retry link p arrived
-        → z ≡ stepFrom h s me came p arrived
-    step-blocked link z e q = q ∙ sym (by-outlook ∙ rw e)
+    pub step_blocked : (link : Crossing) (z : Step) → o ≡ Blocked link → z ≡ reroute_on h s me came p.retry link p arrived
+        → z ≡ step_from h s me came p arrived
+    step_blocked link z e q = q ∙ sym (by_outlook ∙ rw e)
 
-  pub reroute_last : (n : ℕ) (link : Crossing) (p : Packet) (arrived : Bool) → n ≤ 1 → rerouteOn h s me came n link p arrived ≡ ended drop_retry came
-  unfolding rerouteOn
+  pub reroute_last : (n : ℕ) (link : Crossing) (p : Packet) (arrived : Bool) → n ≤ 1 → reroute_on h s me came n link p arrived ≡ ended drop_retry came
+  unfolding reroute_on
   reroute_last zero link p arrived l = refl
   reroute_last (suc zero) link p arrived l = refl
   reroute_last (suc (suc f)) link p arrived l = absurd (omega arith)
 
   reroute_more : (n : ℕ) (link : Crossing) (p : Packet) (arrived : Bool) → 1 < n
-      → rerouteOn h s me came n link p arrived ≡ rerouted h s me came (rerouteOn h s me came (n - 1)) link (retried (n - 1) p) arrived
-  unfolding rerouteOn
+      → reroute_on h s me came n link p arrived ≡ rerouted h s me came (reroute_on h s me came (n - 1)) link (retried (n - 1) p) arrived
+  unfolding reroute_on
   reroute_more zero link p arrived l = absurd (omega arith)
   reroute_more (suc zero) link p arrived l = absurd (omega arith)
   reroute_more (suc (suc f)) link p arrived l = rw (sub-one (suc (suc f)))
 
   -- the reroute by what it makes of the packet
-  abbrev onTurn : Reroute → Turned → Step
-  onTurn reroute NoProxy = ended drop_proxy came
-  onTurn reroute (Again r) = one_more (from4 h s me came reroute r false)
+  abbrev on_turn : Reroute → Turned → Step
+  on_turn reroute NoProxy = ended drop_proxy came
+  on_turn reroute (Again r) = one_more (from4 h s me came reroute r false)
 
-  set_turn : (reroute : Reroute) (p : Packet) (found : Candidate) → setProxy h s me came reroute p found ≡ onTurn reroute (turn_by h me p found)
+  set_turn : (reroute : Reroute) (p : Packet) (found : Candidate) → set_proxy h s me came reroute p found ≡ on_turn reroute (turn_by h me p found)
   set_turn reroute p candidate.Nothing = refl
   set_turn reroute p (candidate.At p1 i) = refl
 
   rerouted_turn : (reroute : Reroute) (link : Crossing) (p : Packet) (arrived : Bool)
-      → rerouted h s me came reroute link p arrived ≡ onTurn reroute (turn_of h s me link p arrived)
-  unfolding turn_of firstLevel
+      → rerouted h s me came reroute link p arrived ≡ on_turn reroute (turn_of h s me link p arrived)
+  unfolding turn_of first_level
   rerouted_turn reroute Nothing p arrived = refl
-  rerouted_turn reroute (Link n1 n2 m) p arrived = set_turn reroute p (choice h s (place_of h me) (firstLevel h s me came m arrived))
+  rerouted_turn reroute (Link n1 n2 m) p arrived = set_turn reroute p (choice h s (place_of h me) (first_level h s me came m arrived))
 
   module _ (p : Packet) (arrived : Bool) (many : 1 < p.retry) (q : Packet) (low : q ≡ retried (p.retry - 1) p)
       (link : Crossing) (t : Turned) (is : t ≡ turn_of h s me link q arrived) where
-    by_turn : rerouteOn h s me came p.retry link p arrived ≡ onTurn (rerouteOn h s me came (p.retry - 1)) t
+    by_turn : reroute_on h s me came p.retry link p arrived ≡ on_turn (reroute_on h s me came (p.retry - 1)) t
     by_turn =
         reroute_more p.retry link p arrived many
-        ∙ rerouted_turn (rerouteOn h s me came (p.retry - 1)) link (retried (p.retry - 1) p) arrived ∙ rw (is, low)
+        ∙ rerouted_turn (reroute_on h s me came (p.retry - 1)) link (retried (p.retry - 1) p) arrived ∙ rw (is, low)
 
-    pub reroute-misses : (o : Step) → t ≡ NoProxy → o ≡ ended drop_proxy came → o ≡ rerouteOn h s me came p.retry link p arrived
-    reroute-misses o e k = k ∙ sym (by_turn ∙ rw e)
+    pub reroute_misses : (o : Step) → t ≡ NoProxy → o ≡ ended drop_proxy came → o ≡ reroute_on h s me came p.retry link p arrived
+    reroute_misses o e k = k ∙ sym (by_turn ∙ rw e)
 
-    pub reroute-again : (r : Packet) → t ≡ Again r → (o z : Step) → o ≡ stepFrom h s me came r false → z ≡ one_more o
-        → z ≡ rerouteOn h s me came p.retry link p arrived
-    unfolding stepFrom
-    reroute-again r e o z g k =
+    pub reroute_again : (r : Packet) → t ≡ Again r → (o z : Step) → o ≡ step_from h s me came r false → z ≡ one_more o
+        → z ≡ reroute_on h s me came p.retry link p arrived
+    unfolding step_from
+    reroute_again r e o z g k =
         let n : p.retry - 1 ≡ r.retry = sym (turn_retry h s me link q arrived r (sym is ∙ e) ∙ ap (λ (x : Packet). x.retry) low) in
         k ∙ ap one_more g ∙ sym (by_turn ∙ rw (e, n))
 
   -- a step has no more reroutes than the retry
-  pub step_few : (o : Step) (p : Packet) (arrived : Bool) → o ≡ stepFrom h s me came p arrived → o.reroutes ≤ p.retry
+  pub step_few : (o : Step) (p : Packet) (arrived : Bool) → o ≡ step_from h s me came p arrived → o.reroutes ≤ p.retry
   step_few o p arrived e =
       let r = last_pass h s me came (λ (q : Packet). Unit {0}) (λ q f w k. tt) (λ q f n1 n2 m p1 i d w g k. tt) (step_passes h s me came p arrived) tt in
       rw e (omega (arith, r.lowered))
@@ -204,19 +204,19 @@ module _ {whole : Bool} (h : Hall) (table : List ℕ) (me : ℕ) (p : Packet) wh
     v : Valid h
     v = valid_known h stand.here.sound
 
-    link-of : {n1 n2 m : ℕ} → link ≡ Link n1 n2 m → ahead.Ahead h me n1 n2 m
-    link-of e = ahead.link_ahead h stand.here.sound me (goal p) stand.here.fits (goal_fits stand) (sym a.first ∙ e)
+    link_of : {n1 n2 m : ℕ} → link ≡ Link n1 n2 m → ahead.Ahead h me n1 n2 m
+    link_of e = ahead.link_ahead h stand.here.sound me (goal p) stand.here.fits (goal_fits stand) (sym a.first ∙ e)
 
     pub level_low : (n1 n2 m : ℕ) → link ≡ Link n1 n2 m → m ≤ top
-    level_low n1 n2 m e = let k = link-of e in omega (arith, k.level, k.high, v.k_high)
+    level_low n1 n2 m e = let k = link_of e in omega (arith, k.level, k.high, v.k_high)
 
-    pub level-above : (n1 n2 m : ℕ) → link ≡ Link n1 n2 m → (more level : ℕ) → level ≡ m + more → h.b < level
-    level-above n1 n2 m e more level l = let k = link-of e in omega (arith, k.level, k.low)
+    pub level_above : (n1 n2 m : ℕ) → link ≡ Link n1 n2 m → (more level : ℕ) → level ≡ m + more → h.b < level
+    level_above n1 n2 m e more level l = let k = link_of e in omega (arith, k.level, k.low)
 
     -- with one retry less it is stopped there too
-    pub stopped-retried : (q : Packet) → q ≡ retried (p.retry - 1) p → Stopped h whole table me link q
+    pub stopped_retried : (q : Packet) → q ≡ retried (p.retry - 1) p → Stopped h whole table me link q
     unfolding goal
-    stopped-retried q low = rw low (record {
+    stopped_retried q low = rw low (record {
       standing = record {
         here = stand.here;
         packet = record {
@@ -232,9 +232,9 @@ module _ {whole : Bool} (h : Hall) (table : List ℕ) (me : ℕ) (p : Packet) wh
     })
 
     -- without its proxy it still stands there
-    stands-cleared : (r : Packet) → r ≡ cleared p → Standing h whole table me r
+    stands_cleared : (r : Packet) → r ≡ cleared p → Standing h whole table me r
     unfolding goal
-    stands-cleared r e = rw e (record {
+    stands_cleared r e = rw e (record {
       here = stand.here;
       packet = record {
         dst_fits = stand.packet.dst_fits;
@@ -252,7 +252,7 @@ module _ {whole : Bool} (h : Hall) (table : List ℕ) (me : ℕ) (p : Packet) wh
       unfolding is_candidate
       suits =
           let k = choice_at h s (place_of h me) level (sym c ∙ f) in
-          let l = link-of e in
+          let l = link_of e in
           let t : Bool = not (eqb (s.distance (place_of h me) p1) none) in
           let w : both t (s.usable i p1) ≡ true = k.nearest.candidate in
           record {
@@ -270,39 +270,39 @@ module _ {whole : Bool} (h : Hall) (table : List ℕ) (me : ℕ) (p : Packet) wh
       }
 
       -- and with a new one
-      stands-proxied : (r : Packet) → r ≡ proxied (neighbour h.n (i - 1) (first_of h me + p1)) p → Standing h whole table me r
+      stands_proxied : (r : Packet) → r ≡ proxied (neighbour h.n (i - 1) (first_of h me + p1)) p → Standing h whole table me r
       unfolding goal
-      stands-proxied r y =
+      stands_proxied r y =
           let b = stand.here.sound in
           let far : me ≡ p.dst → ⊥ = λ z. stand.dst_apart (sym z) in
           rw y (record {
             here = stand.here;
             packet = record {
               dst_fits = stand.packet.dst_fits;
-              proxy_fits = λ z. proxy-in-hall h s me p b stand.here.fits far p1 i suits;
+              proxy_fits = λ z. proxy_in_hall h s me p b stand.here.fits far p1 i suits;
               retry_fits = stand.packet.retry_fits;
             };
             dst_apart = stand.dst_apart;
-            goal_apart = λ z. proxy-away h s me p b stand.here.fits far p1 i suits (sym z);
+            goal_apart = λ z. proxy_away h s me p b stand.here.fits far p1 i suits (sym z);
             alive = stand.alive;
           })
 
     -- so what a reroute makes of it stands there
     module _ (s : Seen) (arrived : Bool) (r : Packet) where
-      by-found : (n1 n2 m : ℕ) → link ≡ Link n1 n2 m
+      by_found : (n1 n2 m : ℕ) → link ≡ Link n1 n2 m
           → (found : Candidate) → found ≡ choice h s (place_of h me) (m + pick (both arrived (ltb m h.k)) 1 0)
           → turn_by h me p found ≡ Again r → Standing h whole table me r
-      by-found n1 n2 m e candidate.Nothing c t = absurd (let w : ◌≡◌ {A = ℕ} 0 1 = cc in omega arith)
-      by-found n1 n2 m e (candidate.At p1 i) c t =
-          stands-proxied n1 n2 m e arrived (m + pick (both arrived (ltb m h.k)) 1 0) refl s (candidate.At p1 i) c p1 i refl r (again_one t)
+      by_found n1 n2 m e candidate.Nothing c t = absurd (let w : ◌≡◌ {A = ℕ} 0 1 = cc in omega arith)
+      by_found n1 n2 m e (candidate.At p1 i) c t =
+          stands_proxied n1 n2 m e arrived (m + pick (both arrived (ltb m h.k)) 1 0) refl s (candidate.At p1 i) c p1 i refl r (again_one t)
 
-      by-link : (l : Crossing) → link ≡ l → turn_of h s me l p arrived ≡ Again r → Standing h whole table me r
+      by_link : (l : Crossing) → link ≡ l → turn_of h s me l p arrived ≡ Again r → Standing h whole table me r
       unfolding turn_of
-      by-link Nothing e t = stands-cleared r (again_one t)
-      by-link (Link n1 n2 m) e t = by-found n1 n2 m e (choice h s (place_of h me) (m + pick (both arrived (ltb m h.k)) 1 0)) refl t
+      by_link Nothing e t = stands_cleared r (again_one t)
+      by_link (Link n1 n2 m) e t = by_found n1 n2 m e (choice h s (place_of h me) (m + pick (both arrived (ltb m h.k)) 1 0)) refl t
 
-      pub stands-again : turn_of h s me link p arrived ≡ Again r → Standing h whole table me r
-      stands-again = by-link link refl
+      pub stands_again : turn_of h s me link p arrived ≡ Again r → Standing h whole table me r
+      stands_again = by_link link refl
 
 -- a packet that nothing refuses, tidied, and as it goes on
 module _ (packet : Packet) where
@@ -326,9 +326,9 @@ module _ (h : Hall) (packet : Packet) where
     away : (tidied packet).dst ≡ me → ⊥
     away z = far (sym z ∙ tidied_dst packet)
 
-    stands-arrived : Standing h whole table me (cleared (tidied packet))
+    stands_arrived : Standing h whole table me (cleared (tidied packet))
     unfolding goal
-    stands-arrived =
+    stands_arrived =
         let c = tidied_sound b in
         record {
           here = a;
@@ -338,42 +338,42 @@ module _ (h : Hall) (packet : Packet) where
           alive = omega (arith, tidied_ttl packet);
         }
 
-    goal-far : is_arrived me packet ≡ false → goal (tidied packet) ≡ me → ⊥
+    goal_far : is_arrived me packet ≡ false → goal (tidied packet) ≡ me → ⊥
     unfolding goal is_arrived
-    goal-far e =
+    goal_far e =
         cases packet.has_proxy
         (λ q. rw q (λ z. let w : eqb packet.proxy me ≡ false = rw q at e in never (eq-eqb packet.proxy me z) w))
         (λ q. rw q (λ z. far (sym z)))
 
-    stands-set-out : is_arrived me packet ≡ false → Standing h whole table me (tidied packet)
-    stands-set-out e =
-        record { here = a; packet = tidied_sound b; dst_apart = away; goal_apart = goal-far e; alive = omega (arith, tidied_ttl packet) }
+    stands_set_out : is_arrived me packet ≡ false → Standing h whole table me (tidied packet)
+    stands_set_out e =
+        record { here = a; packet = tidied_sound b; dst_apart = away; goal_apart = goal_far e; alive = omega (arith, tidied_ttl packet) }
 
-    pub stands-on-way : (arrived : Bool) → arrived ≡ is_arrived me packet → Standing h whole table me (cleared_if arrived (tidied packet))
-    stands-on-way true e = stands-arrived
-    stands-on-way false e = stands-set-out (sym e)
+    pub stands_on_way : (arrived : Bool) → arrived ≡ is_arrived me packet → Standing h whole table me (cleared_if arrived (tidied packet))
+    stands_on_way true e = stands_arrived
+    stands_on_way false e = stands_set_out (sym e)
 
   -- 1 to 3
   module _ (s : Seen) (me : ℕ) (o : Step) where
-    pub step-delivers : me ≡ packet.dst → o ≡ ended delivered (tidied packet) → o ≡ step_on h s me (tidied packet)
+    pub step_delivers : me ≡ packet.dst → o ≡ ended delivered (tidied packet) → o ≡ step_on h s me (tidied packet)
     unfolding step_on
-    step-delivers e q = q ∙ rw (eq-eqb me (tidied packet).dst (e ∙ sym (tidied_dst packet)))
+    step_delivers e q = q ∙ rw (eq-eqb me (tidied packet).dst (e ∙ sym (tidied_dst packet)))
 
     module _ (far : me ≡ packet.dst → ⊥) where
-      away-from : eqb me (tidied packet).dst ≡ false
-      away-from = ne_eqb me (tidied packet).dst (λ z. far (z ∙ tidied_dst packet))
+      away_from : eqb me (tidied packet).dst ≡ false
+      away_from = ne_eqb me (tidied packet).dst (λ z. far (z ∙ tidied_dst packet))
 
-      pub step-dies : packet.ttl ≡ 0 → o ≡ ended drop_ttl (tidied packet) → o ≡ step_on h s me (tidied packet)
+      pub step_dies : packet.ttl ≡ 0 → o ≡ ended drop_ttl (tidied packet) → o ≡ step_on h s me (tidied packet)
       unfolding step_on
-      step-dies z q = q ∙ rw (away-from, eq-eqb (tidied packet).ttl 0 (tidied_ttl packet ∙ z))
+      step_dies z q = q ∙ rw (away_from, eq-eqb (tidied packet).ttl 0 (tidied_ttl packet ∙ z))
 
       module _ (live : packet.ttl ≡ 0 → ⊥) where
-        by-arrived : (arrived : Bool) → arrived ≡ is_arrived me (tidied packet)
-            → stepFrom h s me (tidied packet) (cleared_if arrived (tidied packet)) arrived ≡ step_on h s me (tidied packet)
+        by_arrived : (arrived : Bool) → arrived ≡ is_arrived me (tidied packet)
+            → step_from h s me (tidied packet) (cleared_if arrived (tidied packet)) arrived ≡ step_on h s me (tidied packet)
         unfolding step_on
-        by-arrived true e = rw (away-from, ne_eqb (tidied packet).ttl 0 (λ z. live (sym (tidied_ttl packet) ∙ z)), ← e)
-        by-arrived false e = rw (away-from, ne_eqb (tidied packet).ttl 0 (λ z. live (sym (tidied_ttl packet) ∙ z)), ← e)
+        by_arrived true e = rw (away_from, ne_eqb (tidied packet).ttl 0 (λ z. live (sym (tidied_ttl packet) ∙ z)), ← e)
+        by_arrived false e = rw (away_from, ne_eqb (tidied packet).ttl 0 (λ z. live (sym (tidied_ttl packet) ∙ z)), ← e)
 
-        pub step-goes-on : (arrived : Bool) → arrived ≡ is_arrived me packet → o ≡ stepFrom h s me (tidied packet) (cleared_if arrived (tidied packet)) arrived
+        pub step_goes_on : (arrived : Bool) → arrived ≡ is_arrived me packet → o ≡ step_from h s me (tidied packet) (cleared_if arrived (tidied packet)) arrived
             → o ≡ step_on h s me (tidied packet)
-        step-goes-on arrived e g = g ∙ by-arrived arrived (e ∙ sym (tidied_arrived packet me))
+        step_goes_on arrived e g = g ∙ by_arrived arrived (e ∙ sym (tidied_arrived packet me))

@@ -11,7 +11,7 @@ use Rattle.combine.proofs.Tests.{both_false, both_alone, both_joined}
 use Rattle.hall.specs.declared.Hall.{Hall}
 use Rattle.hall.specs.Cells.{cell, same, neighbour}
 use Rattle.hall.specs.Halls.{is_full, servers}
-use Rattle.hall.proofs.Cells.{same_trans, neighbour-stays}
+use Rattle.hall.proofs.Cells.{same_trans, neighbour_stays}
 use Rattle.hall.proofs.Growth.{valid_known}
 use Rattle.hall.proofs.Links.{neighbour_in}
 use Rattle.ports.specs.Codes.{is_up, up, cell_length}
@@ -24,7 +24,7 @@ use Rattle.plan.specs.Answers.{fitted, is_fitted}
 use Rattle.plan.proofs.Halls.{fitted_same, fitted_full}
 use Rattle.plan.proofs.Asks.{told_fitted}
 use Rattle.counted.specs.Counted.{counted}
-use Rattle.counted.proofs.Counted.{counted_sound, counted_part, cell_same, cell-fitted}
+use Rattle.counted.proofs.Counted.{counted_sound, counted_part, cell_same, cell_fitted}
 use Rattle.counted.proofs.Links.{ups_counted}
 use Rattle.local.proofs.Asks.{bytes_are}
 use Rattle.ends.specs.Tables.{levels, far_count, step_length, cell_part, far_place, far_in}
@@ -33,7 +33,7 @@ use Rattle.ends.proofs.Tables.{near_part, far_below, far_within, step_shared}
 use Rattle.forward.specs.Seen.{usable}
 use Rattle.ends.proofs.Lent as lents
 use Rattle.forward.specs.Inside.{Here, Above, Crossed, Servers, held, lent}
-use Rattle.forward.proofs.Sight.{usable-hall, usable_own}
+use Rattle.forward.proofs.Sight.{usable_hall, usable_own}
 
 known : (h : Hall) (table : List ℕ) (me : ℕ) → Here h true table me → parts.Sound h table me
 known h table me a = record { is_valid = a.sound; long = a.long; below = a.fits }
@@ -80,19 +80,19 @@ module _ (h : Hall) (whole : Bool) (table : List ℕ) (me : ℕ) (a : Here h who
 
   -- the part of the hall table
   module _ (w : whole ≡ true) (count : ℕ) (size : count ≡ cell_size h) where
-    whole-known : parts.Sound h table me
-    whole-known = known h table me (rw w at a)
+    whole_known : parts.Sound h table me
+    whole_known = known h table me (rw w at a)
 
     wide : bytes ≡ count * (h.k + 1)
     wide = e ∙ sym (bytes_are h count size)
 
-    pub part-within : me / count * bytes + bytes ≤ length table
+    pub part_within : me / count * bytes + bytes ≤ length table
     unfolding cell_size
-    part-within = parts.taken_within h table me whole-known count bytes size wide
+    part_within = parts.taken_within h table me whole_known count bytes size wide
 
-    pub part-first : take (me / count * bytes + bytes - me / count * bytes) (drop (me / count * bytes) table) ≡ cell_part h (held h whole table me)
+    pub part_first : take (me / count * bytes + bytes - me / count * bytes) (drop (me / count * bytes) table) ≡ cell_part h (held h whole table me)
     unfolding cell_size
-    part-first = parts.taken_is h table me whole-known count bytes size wide ∙ rw w (sym (near_part h table me whole-known))
+    part_first = parts.taken_is h table me whole_known count bytes size wide ∙ rw w (sym (near_part h table me whole_known))
 
 -- of two tests in turn the first decides where it does not hold, else the second
 first_decides : (a b near : Bool) → near ≡ a → near ≡ false → false ≡ both a b
@@ -114,13 +114,13 @@ module _ (h : Hall) (place level : ℕ) (a : Above h place level) where
   far_there = far_within h place level a.inside a.low a.high
 
   module _ (table : List ℕ) (near : Bool) (p : near ≡ up h table place level) where
-    pub open-not : near ≡ false → false ≡ usable h table level place
+    pub open_not : near ≡ false → false ≡ usable h table level place
     unfolding usable
-    open-not e = first_decides (up h table place level) (is_up (far_in h table place level)) near p e
+    open_not e = first_decides (up h table place level) (is_up (far_in h table place level)) near p e
 
-    pub open-far : near ≡ true → (at : ℕ) → at ≡ far_place h place level → eqb (get_or table at 0) 1 ≡ usable h table level place
+    pub open_far : near ≡ true → (at : ℕ) → at ≡ far_place h place level → eqb (get_or table at 0) 1 ≡ usable h table level place
     unfolding usable far_in
-    open-far e at q = second_decides (up h table place level) (is_up (far_in h table place level)) near (eqb (get_or table at 0) 1) p e (rw q)
+    open_far e at q = second_decides (up h table place level) (is_up (far_in h table place level)) near (eqb (get_or table at 0) 1) p e (rw q)
 
 -- a link by both its ends in the hall table
 module _ (h : Hall) (whole : Bool) (table : List ℕ) (level : ℕ) where
@@ -139,7 +139,7 @@ module _ (h : Hall) (whole : Bool) (table : List ℕ) (level : ℕ) where
   whole_open : (me place : ℕ) → Here h whole table me → Above h place level → whole ≡ true
       → both_up h table level (first_of h me + place) (neighbour h.n (level - 1) (first_of h me + place)) ≡ usable h (held h whole table me) level place
   whole_open me place a p w =
-      sym (rw w (usable-hall h table me (known h table me (rw w at a)) level place p.inside p.low p.high))
+      sym (rw w (usable_hall h table me (known h table me (rw w at a)) level place p.inside p.low p.high))
 
   -- the near end decides where it is not up, else the far one
   module _ (u v : ℕ) (near : Bool) (p : near ≡ up h table u level) where
@@ -147,62 +147,62 @@ module _ (h : Hall) (whole : Bool) (table : List ℕ) (level : ℕ) where
     unfolding both_up
     by_near e = first_decides (up h table u level) (up h table v level) near p e
 
-    by-far : near ≡ true → (r : Bool) → r ≡ up h table v level → r ≡ both_up h table level u v
+    by_far : near ≡ true → (r : Bool) → r ≡ up h table v level → r ≡ both_up h table level u v
     unfolding both_up
-    by-far e r q = second_decides (up h table u level) (up h table v level) near r p e q
+    by_far e r q = second_decides (up h table u level) (up h table v level) near r p e q
 
   module _ (u v : ℕ) (a : Crossed h whole table u v level) (w : whole ≡ true) (near : Bool) (p : near ≡ up h table u level) where
-    pub near-closed : near ≡ false → false ≡ usable h (held h whole table u) level (place_of h u)
-    near-closed e = by_near u v near p e ∙ whole_usable u v a w
+    pub near_closed : near ≡ false → false ≡ usable h (held h whole table u) level (place_of h u)
+    near_closed e = by_near u v near p e ∙ whole_usable u v a w
 
-    pub far-decides : near ≡ true → (r : Bool) → r ≡ up h table v level → r ≡ usable h (held h whole table u) level (place_of h u)
-    far-decides e r q = by-far u v near p e r q ∙ whole_usable u v a w
+    pub far_decides : near ≡ true → (r : Bool) → r ≡ up h table v level → r ≡ usable h (held h whole table u) level (place_of h u)
+    far_decides e r q = by_far u v near p e r q ∙ whole_usable u v a w
 
   module _ (me place : ℕ) (a : Here h whole table me) (b : Above h place level) (w : whole ≡ true) (u : ℕ) (is : u ≡ first_of h me + place)
       (near : Bool) (p : near ≡ up h table u level) where
-    pub place-closed : near ≡ false → false ≡ usable h (held h whole table me) level place
-    place-closed e =
+    pub place_closed : near ≡ false → false ≡ usable h (held h whole table me) level place
+    place_closed e =
         by_near (first_of h me + place) (neighbour h.n (level - 1) (first_of h me + place)) near (p ∙ ap (λ (x : ℕ). up h table x level) is) e
         ∙ whole_open me place a b w
 
-    pub neighbour-decides : near ≡ true → (v : ℕ) → v ≡ neighbour h.n (level - 1) (first_of h me + place) → (r : Bool) → r ≡ up h table v level
+    pub neighbour_decides : near ≡ true → (v : ℕ) → v ≡ neighbour h.n (level - 1) (first_of h me + place) → (r : Bool) → r ≡ up h table v level
         → r ≡ usable h (held h whole table me) level place
-    neighbour-decides e v f r q =
-        by-far (first_of h me + place) (neighbour h.n (level - 1) (first_of h me + place)) near (p ∙ ap (λ (x : ℕ). up h table x level) is) e r
+    neighbour_decides e v f r q =
+        by_far (first_of h me + place) (neighbour h.n (level - 1) (first_of h me + place)) near (p ∙ ap (λ (x : ℕ). up h table x level) is) e r
         (q ∙ ap (λ (x : ℕ). up h table x level) f)
         ∙ whole_open me place a b w
 
 -- A LINK AS ITS CODES COUNT: BOTH ENDS UP, AND BOTH SERVERS FITTED
 module _ (h : Hall) (table : List ℕ) (me place level : ℕ) (p : Above h place level) where
-  abbrev own-uid : ℕ
-  own-uid = first_of h me + place
+  abbrev own_uid : ℕ
+  own_uid = first_of h me + place
 
-  abbrev far-uid : ℕ
-  far-uid = neighbour h.n (level - 1) (first_of h me + place)
+  abbrev far_uid : ℕ
+  far_uid = neighbour h.n (level - 1) (first_of h me + place)
 
   pub usable_counts : (whole : Bool) → Here h whole table me → usable h (lent h whole table me) level place
-      ≡ both (both (fitted h me) (fitted h far-uid)) (usable h (held h whole table me) level place)
+      ≡ both (both (fitted h me) (fitted h far_uid)) (usable h (held h whole table me) level place)
   unfolding usable first_of cell_size cell
   usable_counts false a =
       rw (
-        lents.lent-near h me table a.long place level p.inside p.low p.high (valid_known h p.sound),
-        lents.lent-far h me table a.long place level p.inside p.low p.high,
+        lents.lent_near h me table a.long place level p.inside p.low p.high (valid_known h p.sound),
+        lents.lent_far h me table a.long place level p.inside p.low p.high,
       )
-      (sym (both_joined (both (fitted h me) (fitted h far-uid)) (up h table place level) (is_up (far_in h table place level))))
+      (sym (both_joined (both (fitted h me) (fitted h far_uid)) (up h table place level) (is_up (far_in h table place level))))
   usable_counts true a =
       let v = valid_known h p.sound in
       let e : suc (level - 1) ≡ level = omega (arith, p.low) in
-      let c : both_up h (counted h 0 table) level own-uid far-uid ≡ both (both (fitted h own-uid) (fitted h far-uid)) (both_up h table level own-uid far-uid) =
-      rw e at (ups_counted h (omega (arith, v.n_low)) table (level - 1) own-uid) in
-      usable-hall h (counted h 0 table) me (counted_known h table me a) level place p.inside p.low p.high
+      let c : both_up h (counted h 0 table) level own_uid far_uid ≡ both (both (fitted h own_uid) (fitted h far_uid)) (both_up h table level own_uid far_uid) =
+      rw e at (ups_counted h (omega (arith, v.n_low)) table (level - 1) own_uid) in
+      usable_hall h (counted h 0 table) me (counted_known h table me a) level place p.inside p.low p.high
       ∙ c
-      ∙ rw (cell-fitted h (omega (arith, v.n_low)) h.b me v.b_high place p.inside, usable-hall h table me (known h table me a) level place p.inside p.low p.high)
+      ∙ rw (cell_fitted h (omega (arith, v.n_low)) h.b me v.b_high place p.inside, usable_hall h table me (known h table me a) level place p.inside p.low p.high)
 
 -- a link of level 1 stays in a DCell1
 near_together : (h : Hall) → 0 < h.n → (u level : ℕ) → 0 < level → level < 2 → same h.n 1 u (neighbour h.n (level - 1) u) ≡ true
 near_together h pos u level low l =
     let z : level - 1 ≡ 0 = omega arith in
-    rw z (neighbour-stays h.n pos 0 u)
+    rw z (neighbour_stays h.n pos 0 u)
 
 -- the servers of a link are of the hall
 pub crossed_servers : (h : Hall) (whole : Bool) (table : List ℕ) (u v level : ℕ) → Crossed h whole table u v level → Servers h level u v
@@ -254,30 +254,30 @@ module _ (h : Hall) (level u v : ℕ) (s : Servers h level u v) (near : Bool) (e
 -- what the code makes of the two tests
 module _ (h : Hall) (whole : Bool) (table : List ℕ) (level : ℕ) (near : Bool) where
   module _ (me place : ℕ) (a : Here h whole table me) (b : Above h place level) (p : near ≡ usable h (held h whole table me) level place) where
-    pub place-shut : near ≡ false → false ≡ usable h (lent h whole table me) level place
-    place-shut e = sym (usable_counts h table me place level b whole a
+    pub place_shut : near ≡ false → false ≡ usable h (lent h whole table me) level place
+    place_shut e = sym (usable_counts h table me place level b whole a
         ∙ both_false (both (fitted h me) (fitted h (neighbour h.n (level - 1) (first_of h me + place)))) (usable h (held h whole table me) level place) (sym p ∙ e))
 
-    pub place-fitted : near ≡ true → (far : ℕ) → far ≡ neighbour h.n (level - 1) (first_of h me + place) → (r : Bool) → r ≡ both (fitted h me) (fitted h far)
+    pub place_fitted : near ≡ true → (far : ℕ) → far ≡ neighbour h.n (level - 1) (first_of h me + place) → (r : Bool) → r ≡ both (fitted h me) (fitted h far)
         → r ≡ usable h (lent h whole table me) level place
-    place-fitted e far f r q = q ∙ rw f (sym (usable_counts h table me place level b whole a ∙ rw (← p, e) (both_alone (both (fitted h me) (fitted h (neighbour h.n (level - 1) (first_of h me + place)))))))
+    place_fitted e far f r q = q ∙ rw f (sym (usable_counts h table me place level b whole a ∙ rw (← p, e) (both_alone (both (fitted h me) (fitted h (neighbour h.n (level - 1) (first_of h me + place)))))))
 
     pub place_full : near ≡ true → is_full h ≡ true → true ≡ usable h (lent h whole table me) level place
-    place_full e f = place-fitted e (neighbour h.n (level - 1) (first_of h me + place)) refl true (all_fitted h me (neighbour h.n (level - 1) (first_of h me + place)) f)
+    place_full e f = place_fitted e (neighbour h.n (level - 1) (first_of h me + place)) refl true (all_fitted h me (neighbour h.n (level - 1) (first_of h me + place)) f)
 
   -- by the uids of a crossing
   module _ (u v : ℕ) (a : Crossed h whole table u v level) (p : near ≡ usable h (held h whole table u) level (place_of h u)) where
     above : Above h (place_of h u) level
     above = record { sound = a.here.sound; inside = place_fits h (valid_known h a.here.sound) u; low = a.low; high = a.high }
 
-    leads-on : v ≡ neighbour h.n (level - 1) (first_of h u + place_of h u)
-    leads-on = a.leads ∙ ap (neighbour h.n (level - 1)) (sym (uid_made h u))
+    leads_on : v ≡ neighbour h.n (level - 1) (first_of h u + place_of h u)
+    leads_on = a.leads ∙ ap (neighbour h.n (level - 1)) (sym (uid_made h u))
 
-    pub link-shut : near ≡ false → false ≡ usable h (lent h whole table u) level (place_of h u)
-    link-shut = place-shut u (place_of h u) a.here above p
+    pub link_shut : near ≡ false → false ≡ usable h (lent h whole table u) level (place_of h u)
+    link_shut = place_shut u (place_of h u) a.here above p
 
-    pub link-full : near ≡ true → is_full h ≡ true → true ≡ usable h (lent h whole table u) level (place_of h u)
-    link-full = place_full u (place_of h u) a.here above p
+    pub link_full : near ≡ true → is_full h ≡ true → true ≡ usable h (lent h whole table u) level (place_of h u)
+    link_full = place_full u (place_of h u) a.here above p
 
-    pub link-fitted : near ≡ true → (r : Bool) → r ≡ both (fitted h u) (fitted h v) → r ≡ usable h (lent h whole table u) level (place_of h u)
-    link-fitted e r q = place-fitted u (place_of h u) a.here above p e v leads-on r q
+    pub link_fitted : near ≡ true → (r : Bool) → r ≡ both (fitted h u) (fitted h v) → r ≡ usable h (lent h whole table u) level (place_of h u)
+    link_fitted e r q = place_fitted u (place_of h u) a.here above p e v leads_on r q

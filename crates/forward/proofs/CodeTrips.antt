@@ -13,7 +13,7 @@ use Rattle.hall.specs.declared.Hall.{Hall}
 use Rattle.hall.proofs.Growth.{valid_known}
 use Rattle.local.specs.Local.{linked}
 use Rattle.counted.specs.Counted.{counted}
-use Rattle.counted.proofs.Counted.{counted-length}
+use Rattle.counted.proofs.Counted.{counted_length}
 use Rattle.ends.specs.Tables.{step_table, cell_part}
 use Rattle.forward.specs.declared.Packet.{Packet}
 use Rattle.forward.specs.declared.Step.{Step}
@@ -38,9 +38,9 @@ module _ (h : Hall) (table : List ℕ) (me : ℕ) (p : Packet) (a : Departing h 
         rw q (omega arith)
 
     -- where it ends, so does the journey
-    pub trip-ends : (o.ending ≡ 0 → ⊥) → trip h table me p ≡ ends_at me o
+    pub trip_ends : (o.ending ≡ 0 → ⊥) → trip h table me p ≡ ends_at me o
     unfolding trip_on
-    trip-ends ne = go p.ttl
+    trip_ends ne = go p.ttl
       where
         stops : eqb (step_at h table me p).ending forwarded ≡ false
         stops = ne_eqb (step_at h table me p).ending forwarded (λ z. ne (ap (λ (s : Step). s.ending) q ∙ z))
@@ -53,20 +53,20 @@ module _ (h : Hall) (table : List ℕ) (me : ℕ) (p : Packet) (a : Departing h 
       forwards : (step_at h table me p).ending ≡ forwarded
       forwards = sym (ap (λ (s : Step). s.ending) q) ∙ z
 
-      pub ttl-falls : o.packet.ttl + 1 ≡ p.ttl
-      ttl-falls = rw q (step_sends h table me p forwards).ttl
+      pub ttl_falls : o.packet.ttl + 1 ≡ p.ttl
+      ttl_falls = rw q (step_sends h table me p forwards).ttl
 
       -- else it goes on from the next server, with the packet sent on
-      pub trip-goes : trip h table me p ≡ goes_on me o (trip h table o.next o.packet)
+      pub trip_goes : trip h table me p ≡ goes_on me o (trip h table o.next o.packet)
       unfolding trip_on
-      trip-goes = go p.ttl (sym ttl-falls)
+      trip_goes = go p.ttl (sym ttl_falls)
         where
           go : (f : ℕ) → f ≡ o.packet.ttl + 1 → trip_on f (λ u r. step_at h table u r) me p ≡ goes_on me o (trip h table o.next o.packet)
           go zero e = absurd (omega arith)
           go (suc f) e = let g : f ≡ o.packet.ttl = omega arith in rw (eq-eqb (step_at h table me p).ending forwarded forwards, ← q, g)
 
-      pub departs-again : Departing h table o.next o.packet
-      departs-again =
+      pub departs_again : Departing h table o.next o.packet
+      departs_again =
           let s = tidied_sound h p a.packet in
           let f = step_forwards h (sight h table me) (λ x w. linked h (cell_part h (step_table h table me)) x w ≡ true) (seen_links h (step_table h table me) (valid_known h a.sound))
           a.sound me (tidied p) a.fits (record { dst_in = s.dst_fits; proxy_in = s.proxy_fits }) forwards in
@@ -74,7 +74,7 @@ module _ (h : Hall) (table : List ℕ) (me : ℕ) (p : Packet) (a : Departing h 
           rw q (record {
             sound = a.sound;
             long = a.long;
-            fits = f.inside-hall;
+            fits = f.inside_hall;
             packet = record {
               dst_fits = f.packet_fits.dst_in;
               proxy_fits = f.packet_fits.proxy_in;
@@ -84,10 +84,10 @@ module _ (h : Hall) (table : List ℕ) (me : ℕ) (p : Packet) (a : Departing h 
 
 -- the journey goes by the hall table as its codes count, and each of its steps has the table as it stands
 pub departs_counted : (h : Hall) (table : List ℕ) (me : ℕ) (p : Packet) → Departing h table me p → Departing h (counted h 0 table) me p
-departs_counted h table me p a = record { sound = a.sound; long = counted-length h 0 table ∙ a.long; fits = a.fits; packet = a.packet }
+departs_counted h table me p a = record { sound = a.sound; long = counted_length h 0 table ∙ a.long; fits = a.fits; packet = a.packet }
 
 pub here_whole : (h : Hall) (table : List ℕ) (me : ℕ) (p : Packet) → Departing h (counted h 0 table) me p → Here h true table me × Sound h p
-here_whole h table me p a = (record { sound = a.sound; long = sym (counted-length h 0 table) ∙ a.long; fits = a.fits }, a.packet)
+here_whole h table me p a = (record { sound = a.sound; long = sym (counted_length h 0 table) ∙ a.long; fits = a.fits }, a.packet)
 
 -- what is passed so far, before a trip
 abbrev behind : List ℕ → ℕ → ℕ → Trip → Trip
@@ -123,8 +123,8 @@ module _ (h : Hall) (table : List ℕ) (source : ℕ) (packet : Packet) where
     abbrev Filled : List ℕ
     Filled = w.filled ++ (me ∷ [])
 
-    filled-count : length Filled ≡ at + 1
-    filled-count = omega (arith, length-append w.filled (me ∷ []), w.count)
+    filled_count_lem : length Filled ≡ at + 1
+    filled_count_lem = omega (arith, length-append w.filled (me ∷ []), w.count)
 
     written : set uids at me ≡ Filled ++ replicate (most_passed - (at + 1)) 0
     written =
@@ -133,32 +133,32 @@ module _ (h : Hall) (table : List ℕ) (source : ℕ) (packet : Packet) where
         ap (λ (u : List ℕ). set u at me) w.room ∙ rw e (set_at w.filled 0 (replicate (most_passed - (at + 1)) 0) me at w.count)
         ∙ sym (append_assoc w.filled (me ∷ []) (replicate (most_passed - (at + 1)) 0))
 
-    passed-there : set uids at me ≡ passed Filled
+    passed_there : set uids at me ≡ passed Filled
     unfolding passed
-    passed-there = rw filled-count written
+    passed_there = rw filled_count_lem written
 
     module _ (o : Step) (q : o ≡ step_at h table me p) where
       -- the last step: the counts and the uids are the journey's
-      pub ends-journey : (o.ending ≡ 0 → ⊥)
+      pub ends_journey : (o.ending ≡ 0 → ⊥)
           → ◌≡◌ {A = Journey} (record { refusal = 0; ending = o.ending; links = at; reroutes = reroutes + o.reroutes; uids = set uids at me })
           (journey_from (trip h table source packet))
-      ends-journey ne =
+      ends_journey ne =
           let e : trip h table source packet ≡ behind w.filled at reroutes (ends_at me o) =
-          w.whole ∙ ap (behind w.filled at reroutes) (trip-ends h table me p w.departing o q ne) in
+          w.whole ∙ ap (behind w.filled at reroutes) (trip_ends h table me p w.departing o q ne) in
           let z : at + 0 ≡ at = omega arith in
-          rw (passed-there, e, z)
+          rw (passed_there, e, z)
 
       module _ (z : o.ending ≡ 0) where
         -- one step more
-        pub goes_on : Underway h table source packet (set uids at me) o.next o.packet (reroutes + o.reroutes) (at + 1)
-        goes_on = record {
+        pub goes_on_lem : Underway h table source packet (set uids at me) o.next o.packet (reroutes + o.reroutes) (at + 1)
+        goes_on_lem = record {
           filled = Filled;
-          count = filled-count;
+          count = filled_count_lem;
           room = written;
-          left = omega (arith, ttl-falls h table me p w.departing o q z, w.left);
+          left = omega (arith, ttl_falls h table me p w.departing o q z, w.left);
           few = omega (arith, step_few h table me p w.departing o q, w.few);
-          departing = departs-again h table me p w.departing o q z;
-          whole = w.whole ∙ ap (behind w.filled at reroutes) (trip-goes h table me p w.departing o q z) ∙ moved (trip h table o.next o.packet);
+          departing = departs_again h table me p w.departing o q z;
+          whole = w.whole ∙ ap (behind w.filled at reroutes) (trip_goes h table me p w.departing o q z) ∙ moved (trip h table o.next o.packet);
         }
           where
             moved : (j : Trip) → behind w.filled at reroutes (goes_on me o j) ≡ behind Filled (at + 1) (reroutes + o.reroutes) j

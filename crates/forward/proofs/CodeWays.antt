@@ -73,9 +73,9 @@ module _ {whole : Bool} (h : Hall) (table : List ℕ) (me target : ℕ) (a : Tar
         (λ q. let f : r ≡ record { refusal = 0; found = 1; uid = first_of h me + place } = told ∙ rw q in let g = ap (λ (n : NextHop). n.found) f in absurd (omega arith))
         (λ q. rw (← reaches, q))
 
-    pub hop-some : (r.found ≡ 0 → ⊥) → To r.uid ≡ way_to h (seen h (lent h whole table me)) me target
+    pub hop_some : (r.found ≡ 0 → ⊥) → To r.uid ≡ way_to h (seen h (lent h whole table me)) me target
     unfolding way_to hop_at
-    hop-some ne =
+    hop_some ne =
         cases (ltb place (cell_size h))
         (λ q. let f : r ≡ record { refusal = 0; found = 1; uid = first_of h me + place } = told ∙ rw q in rw (← reaches, q, ap (λ (n : NextHop). n.uid) f))
         (λ q. let f : r ≡ no_hop = told ∙ rw q in absurd (ne (ap (λ (n : NextHop). n.found) f)))

@@ -15,8 +15,8 @@ use Rattle.forward.specs.declared.Packet.{Packet}
 use Rattle.forward.specs.Packets.{forwarded, cleared, tidied}
 use Rattle.forward.specs.Journeys.{Trip, step_at, ends_at, goes_on, trip_on, trip, sight}
 use Rattle.forward.proofs.Passes.{pick_ways}
-use Rattle.forward.specs.Travels.{Travels, last_step, one-step, Comes, at_source, next-step}
-use Rattle.forward.proofs.Ways.{Fits, Ending, is_forwarded, is_delivered, is_drop_ttl, is_drop-route, is_drop-retry, is_drop-proxy, SentOn, Final, final_delivered, final_drop_ttl, final_drop-route, final_drop-retry, final_drop-proxy, LastStep}
+use Rattle.forward.specs.Travels.{Travels, last_step, one_step, Comes, at_source, next_step}
+use Rattle.forward.proofs.Ways.{Fits, Ending, is_forwarded, is_delivered, is_drop_ttl, is_drop_route, is_drop_retry, is_drop_proxy, SentOn, Final, final_delivered, final_drop_ttl, final_drop_route, final_drop_retry, final_drop_proxy, LastStep}
 use Rattle.forward.proofs.Steps.{step_ending, sent_on, reroutes_few}
 
 -- a packet keeps its numbers where it is tidied
@@ -38,9 +38,9 @@ final : {e : ℕ} → Ending e → (e ≡ forwarded → ⊥) → Final e
 final is_forwarded d = absurd (d refl)
 final is_delivered d = final_delivered
 final is_drop_ttl d = final_drop_ttl
-final is_drop-route d = final_drop-route
-final is_drop-retry d = final_drop-retry
-final is_drop-proxy d = final_drop-proxy
+final is_drop_route d = final_drop_route
+final is_drop_retry d = final_drop_retry
+final is_drop_proxy d = final_drop_proxy
 
 module _ (h : Hall) (table : List ℕ) where
   -- what a step sends on, of the packet as it came
@@ -64,7 +64,7 @@ module _ (h : Hall) (table : List ℕ) where
       (λ q.
       let w = eqb-true (step_at h table me p).ending forwarded q in
       let z = (step_sends me p w).ttl in
-      one-step w (trip_on_lem f (step_at h table me p).next (step_at h table me p).packet (omega arith)))
+      one_step w (trip_on_lem f (step_at h table me p).next (step_at h table me p).packet (omega arith)))
       (λ q. last_step (eqb-false (step_at h table me p).ending forwarded q))
 
   -- each uid passed is the next of the step before, each packet the one that it sends on, and the journey's reroutes are the sum over its steps
@@ -74,17 +74,17 @@ module _ (h : Hall) (table : List ℕ) where
   -- links + 1 is the number of uids passed
   pub links_counted : {me : ℕ} {p : Packet} {j : Trip} → Travels h table me p j → j.links + 1 ≡ length j.uids
   links_counted (last_step d) = refl
-  links_counted (one-step e t) = let i = links_counted t in omega arith
+  links_counted (one_step e t) = let i = links_counted t in omega arith
 
   -- the first uid is the source
   pub starts_there : {me : ℕ} {p : Packet} {j : Trip} → Travels h table me p j → (r : List ℕ) × (j.uids ≡ me ∷ r)
   starts_there (last_step d) = ([], refl)
-  starts_there (one-step {rest = rest} e t) = (rest.uids, refl)
+  starts_there (one_step {rest = rest} e t) = (rest.uids, refl)
 
   -- no more links than the TTL
   pub links_within : {me : ℕ} {p : Packet} {j : Trip} → Travels h table me p j → j.links ≤ p.ttl
   links_within (last_step d) = omega arith
-  links_within {me} {p} (one-step e t) = let i = links_within t in let z = (step_sends me p e).ttl in omega arith
+  links_within {me} {p} (one_step e t) = let i = links_within t in let z = (step_sends me p e).ttl in omega arith
 
   sum_few : (r a b c : ℕ) → r + a ≡ c → (0 < a → 0 < r) → b ≤ r - 1 → a + b ≤ c - 1
   sum_few zero zero b c e k l = omega arith
@@ -94,20 +94,20 @@ module _ (h : Hall) (table : List ℕ) where
   -- fewer reroutes than the retry, and none where it is 0
   pub reroutes_within : {me : ℕ} {p : Packet} {j : Trip} → Travels h table me p j → j.reroutes ≤ p.retry - 1
   reroutes_within {me} {p} (last_step d) = omega (arith, tidied_retry p, reroutes_few h (sight h table me) me (tidied p))
-  reroutes_within {me} {p} (one-step {rest = rest} e t) =
+  reroutes_within {me} {p} (one_step {rest = rest} e t) =
       let z = step_sends me p e in
       sum_few (step_at h table me p).packet.retry (step_at h table me p).reroutes rest.reroutes p.retry z.retry z.spared (reroutes_within t)
 
   -- delivery or one of the four drops
   pub trip_ending : {me : ℕ} {p : Packet} {j : Trip} → Travels h table me p j → Final j.ending
   trip_ending {me} {p} (last_step d) = final (step_ending h (sight h table me) me (tidied p)) d
-  trip_ending (one-step e t) = trip_ending t
+  trip_ending (one_step e t) = trip_ending t
 
   -- what comes to a server behind a step that forwards comes there from before it
   comes_before : {me : ℕ} {p : Packet} {at : ℕ} {came : Packet} {before : List ℕ} → (step_at h table me p).ending ≡ forwarded
       → Comes h table (step_at h table me p).next (step_at h table me p).packet at came before → Comes h table me p at came (me ∷ before)
-  comes_before e at_source = next-step at_source e
-  comes_before e (next-step c d) = next-step (comes_before e c) d
+  comes_before e at_source = next_step at_source e
+  comes_before e (next_step c d) = next_step (comes_before e c) d
 
   pub trip_last : {me : ℕ} {p : Packet} {j : Trip} → Travels h table me p j → LastStep h table me p j
   trip_last {me} {p} (last_step d) = record {
@@ -121,7 +121,7 @@ module _ (h : Hall) (table : List ℕ) where
     aged = omega arith;
     lowered = refl;
   }
-  trip_last {me} {p} (one-step {rest = rest} e t) =
+  trip_last {me} {p} (one_step {rest = rest} e t) =
       let i = trip_last t in
       let z = step_sends me p e in
       record {
@@ -140,17 +140,17 @@ module _ (h : Hall) (table : List ℕ) where
   module _ (I : ℕ → Packet → Type 0) (R : ℕ → ℕ → Type 0)
       (keeps : (me : ℕ) (p : Packet) → I me p → (step_at h table me p).ending ≡ forwarded → I (step_at h table me p).next (step_at h table me p).packet)
       (holds : (me : ℕ) (p : Packet) → I me p → (step_at h table me p).ending ≡ forwarded → R me (step_at h table me p).next) where
-    hops-of : (me v : ℕ) (r : List ℕ) → hops (me ∷ (v ∷ r)) ≡ (me, v) ∷ hops (v ∷ r)
+    hops_of : (me v : ℕ) (r : List ℕ) → hops (me ∷ (v ∷ r)) ≡ (me, v) ∷ hops (v ∷ r)
     unfolding hops
-    hops-of me v r = refl
+    hops_of me v r = refl
 
     hops_one : (me : ℕ) → hops (me ∷ []) ≡ []
     unfolding hops
     hops_one me = refl
 
-    pub each-hop : {me : ℕ} {p : Packet} {j : Trip} → Travels h table me p j → I me p → Each (λ e. R e.0 e.1) (hops j.uids)
-    each-hop {me} {p} (last_step d) k = rw (hops_one me) tt
-    each-hop {me} {p} (one-step {rest = rest} e t) k =
+    pub each_hop : {me : ℕ} {p : Packet} {j : Trip} → Travels h table me p j → I me p → Each (λ e. R e.0 e.1) (hops j.uids)
+    each_hop {me} {p} (last_step d) k = rw (hops_one me) tt
+    each_hop {me} {p} (one_step {rest = rest} e t) k =
         let s = starts_there t in
-        let i = each-hop t (keeps me p k e) in
-        rw (s.1, hops-of me (step_at h table me p).next s.0, ← s.1) (holds me p k e, i)
+        let i = each_hop t (keeps me p k e) in
+        rw (s.1, hops_of me (step_at h table me p).next s.0, ← s.1) (holds me p k e, i)

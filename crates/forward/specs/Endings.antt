@@ -13,28 +13,28 @@ use Rattle.forward.specs.declared.Candidate.TheVariants as candidate
 use Rattle.forward.specs.Packets.{cleared, proxied, retried, is_arrived, goal}
 use Rattle.forward.specs.Seen.{Seen}
 use Rattle.forward.specs.Proxies.{is_candidate, choice}
-use Rattle.forward.specs.Steps.{reachable, firstLevel}
+use Rattle.forward.specs.Steps.{reachable, first_level}
 
 module _ (h : Hall) (s : Seen) (me : ℕ) (came : Packet) where
   -- the local target of a pass, and the link above b that it is on the way to: 5, the goal; 7, the near end of the first link above b
   pub data Target (p : Packet) : Crossing → ℕ → Type 0 where
-    the-goal : first_link h me (goal p) ≡ Nothing → Target p Nothing (goal p)
-    the-near : {n1 n2 m : ℕ} → first_link h me (goal p) ≡ Link n1 n2 m → s.usable m (place_of h n1) ≡ true → (me ≡ n1 → ⊥) → Target p (Link n1 n2 m) n1
+    the_goal : first_link h me (goal p) ≡ Nothing → Target p Nothing (goal p)
+    the_near : {n1 n2 m : ℕ} → first_link h me (goal p) ≡ Link n1 n2 m → s.usable m (place_of h n1) ≡ true → (me ≡ n1 → ⊥) → Target p (Link n1 n2 m) n1
 
   -- why a pass leads into the reroute: 6, its link is not usable; 10, its local target is out of reach, and dst in another DCell(b)
   pub data Fails (p : Packet) : Crossing → Type 0 where
     unusable : {n1 n2 m : ℕ} → first_link h me (goal p) ≡ Link n1 n2 m → s.usable m (place_of h n1) ≡ false → Fails p (Link n1 n2 m)
-    out-of-reach : {link : Crossing} {target : ℕ} → Target p link target → reachable h s me came target ≡ false
+    out_of_reach : {link : Crossing} {target : ℕ} → Target p link target → reachable h s me came target ≡ false
         → same h.n h.b me came.dst ≡ false → Fails p link
 
   -- the packet as it stands in a pass of the step, "arrived" or not, behind this many reroutes
   pub data Stands : Packet → Bool → ℕ → Type 0 where
-    came-arrived : is_arrived me came ≡ true → Stands (cleared came) true 0
-    came-so : is_arrived me came ≡ false → Stands came false 0
-    was-cleared : {p : Packet} {arrived : Bool} {count f : ℕ} → Stands p arrived count → Fails p Nothing → p.retry ≡ suc (suc f)
+    came_arrived : is_arrived me came ≡ true → Stands (cleared came) true 0
+    came_so : is_arrived me came ≡ false → Stands came false 0
+    was_cleared : {p : Packet} {arrived : Bool} {count f : ℕ} → Stands p arrived count → Fails p Nothing → p.retry ≡ suc (suc f)
         → Stands (cleared (retried (suc f) p)) false (suc count)
-    was-set : {p : Packet} {arrived : Bool} {count f n1 n2 m p1 i : ℕ} → Stands p arrived count → Fails p (Link n1 n2 m) → p.retry ≡ suc (suc f)
-        → choice h s (place_of h me) (firstLevel h s me came m arrived) ≡ candidate.At p1 i
+    was_set : {p : Packet} {arrived : Bool} {count f n1 n2 m p1 i : ℕ} → Stands p arrived count → Fails p (Link n1 n2 m) → p.retry ≡ suc (suc f)
+        → choice h s (place_of h me) (first_level h s me came m arrived) ≡ candidate.At p1 i
         → Stands (proxied (neighbour h.n (i - 1) (first_of h me + p1)) (retried (suc f) p)) false (suc count)
 
   -- drop 2: dst is in the DCell(b) of self, and the local target of the last pass is out of reach
@@ -46,7 +46,7 @@ module _ (h : Hall) (s : Seen) (me : ℕ) (came : Packet) where
     pub target : ℕ
     pub aims : Target stood link target
     pub unreachable : reachable h s me came target ≡ false
-    pub own-cell : same h.n h.b me came.dst ≡ true
+    pub own_cell : same h.n h.b me came.dst ≡ true
 
   -- drop 3: the last pass fails, and the retry is spent by then
   pub record Spent (o : Step) : Type 0 where
@@ -67,5 +67,5 @@ module _ (h : Hall) (s : Seen) (me : ℕ) (came : Packet) where
     pub n2 : ℕ
     pub m : ℕ
     pub fails : Fails stood (Link n1 n2 m)
-    pub retry-left : 1 < stood.retry
-    pub no-candidate : (i : ℕ) → firstLevel h s me came m arrived ≤ i → i ≤ h.k → (place : ℕ) → place < cell_size h → is_candidate s (place_of h me) i place ≡ false
+    pub retry_left : 1 < stood.retry
+    pub no_candidate : (i : ℕ) → first_level h s me came m arrived ≤ i → i ≤ h.k → (place : ℕ) → place < cell_size h → is_candidate s (place_of h me) i place ≡ false

@@ -46,35 +46,35 @@ module _ (h : Hall) (s : Seen) (me : ℕ) (came : Packet) where
   from4 reroute p arrived = across reroute p arrived (first_link h me (goal p))
 
   -- the new proxy is p1's neighbour at that level
-  abbrev pub setProxy : Reroute → Packet → Candidate → Step
-  setProxy reroute p candidate.Nothing = ended drop_proxy came
-  setProxy reroute p (candidate.At p1 i) = one_more (from4 reroute (proxied (neighbour h.n (i - 1) (first_of h me + p1)) p) false)
+  abbrev pub set_proxy : Reroute → Packet → Candidate → Step
+  set_proxy reroute p candidate.Nothing = ended drop_proxy came
+  set_proxy reroute p (candidate.At p1 i) = one_more (from4 reroute (proxied (neighbour h.n (i - 1) (first_of h me + p1)) p) false)
 
   -- the level to try first: that of the link, plus one if "arrived" and it is below k
-  unfoldable pub firstLevel : ℕ → Bool → ℕ
-  firstLevel m arrived = m + pick (both arrived (ltb m h.k)) 1 0
+  unfoldable pub first_level : ℕ → Bool → ℕ
+  first_level m arrived = m + pick (both arrived (ltb m h.k)) 1 0
 
   -- a proxy in the own cell that can't be reached is cleared; else a new one is set
   abbrev pub rerouted : Reroute → Crossing → Packet → Bool → Step
   rerouted reroute Nothing p arrived = one_more (from4 reroute (cleared p) false)
-  rerouted reroute (Link n1 n2 m) p arrived = setProxy reroute p (choice h s (place_of h me) (firstLevel m arrived))
+  rerouted reroute (Link n1 n2 m) p arrived = set_proxy reroute p (choice h s (place_of h me) (first_level m arrived))
 
   -- if retry <= 1, drop 3; else lower it by one
-  unfoldable pub rerouteOn : ℕ → Crossing → Packet → Bool → Step
-  rerouteOn zero link p arrived = ended drop_retry came
-  rerouteOn (suc zero) link p arrived = ended drop_retry came
-  rerouteOn (suc (suc f)) link p arrived = rerouted (rerouteOn (suc f)) link (retried (suc f) p) arrived
+  unfoldable pub reroute_on : ℕ → Crossing → Packet → Bool → Step
+  reroute_on zero link p arrived = ended drop_retry came
+  reroute_on (suc zero) link p arrived = ended drop_retry came
+  reroute_on (suc (suc f)) link p arrived = rerouted (reroute_on (suc f)) link (retried (suc f) p) arrived
 
   -- from 4 on, with as many reroutes as the retry allows
-  unfoldable pub stepFrom : Packet → Bool → Step
-  stepFrom p arrived = from4 (rerouteOn p.retry) p arrived
+  unfoldable pub step_from : Packet → Bool → Step
+  step_from p arrived = from4 (reroute_on p.retry) p arrived
 
 -- 1: self = dst: deliver; 2: TTL = 0: drop 1; 3: proxy = self: clear it and remember "arrived"
 unfoldable pub step_on : Hall → Seen → ℕ → Packet → Step
 step_on h s me p =
     pick (eqb me p.dst) (ended delivered p)
     (pick (eqb p.ttl 0) (ended drop_ttl p)
-    (pick (is_arrived me p) (stepFrom h s me p (cleared p) true) (stepFrom h s me p p false)))
+    (pick (is_arrived me p) (step_from h s me p (cleared p) true) (step_from h s me p p false)))
 
 -- the step at a server over the table that it is lent
 abbrev pub step : Hall → List ℕ → ℕ → Packet → Step

@@ -18,7 +18,7 @@ use Rattle.forward.specs.declared.Packet.{Packet}
 use Rattle.forward.specs.Packets.{packet_of, forwarded, drop_route, delivered, is_arrived, goal}
 use Rattle.forward.specs.Seen.{usable}
 use Rattle.forward.specs.Proxies.{is_candidate, best_below, first_found, choice}
-use Rattle.forward.specs.Steps.{reachable, firstLevel, rerouteOn, stepFrom, step_on, step}
+use Rattle.forward.specs.Steps.{reachable, first_level, reroute_on, step_from, step_on, step}
 
 hall : Hall
 hall = full_hall 4 1 0
@@ -38,10 +38,10 @@ at_dst = refl
 
 -- to 19 by way of proxy 1, which can't be reached: it is cleared; the link 3-16 is out, so a new proxy is set, the neighbour of 0 itself
 two_reroutes : step hall table 0 (packet 19 1 5 15) ≡ record { refusal = 0; ending = forwarded; next = 4; packet = packet 19 4 3 14; reroutes = 2 }
-unfolding any_below up_to t cell same sub port end near far neighbour lowest n_fits k_fits b_fits count_fits capacity racks valid servers code_of up cell_length cell_part far_place far_in on_switch both_up joined new mark marks route hops first_among first_above first_link lowest_from cell_size place_of first_of linked distances_from distance nearer hop is_arrived goal usable is_candidate best_below first_found choice reachable firstLevel rerouteOn stepFrom step_on hall table packet
+unfolding any_below up_to t cell same sub port end near far neighbour lowest n_fits k_fits b_fits count_fits capacity racks valid servers code_of up cell_length cell_part far_place far_in on_switch both_up joined new mark marks route hops first_among first_above first_link lowest_from cell_size place_of first_of linked distances_from distance nearer hop is_arrived goal usable is_candidate best_below first_found choice reachable first_level reroute_on step_from step_on hall table packet
 two_reroutes = refl
 
 -- dst in the own cell, and the proxy out of reach: drop 2, though dst could be reached
 no_route_lem : step hall table 0 (packet 2 1 5 15) ≡ record { refusal = 0; ending = drop_route; next = 0; packet = packet 2 1 5 15; reroutes = 0 }
-unfolding any_below up_to t cell same sub port end near far neighbour lowest n_fits k_fits b_fits count_fits capacity racks valid servers code_of up cell_length cell_part far_place far_in on_switch both_up joined new mark marks route hops first_among first_above first_link lowest_from cell_size place_of first_of linked distances_from distance nearer hop is_arrived goal usable is_candidate best_below first_found choice reachable firstLevel rerouteOn stepFrom step_on hall table packet
+unfolding any_below up_to t cell same sub port end near far neighbour lowest n_fits k_fits b_fits count_fits capacity racks valid servers code_of up cell_length cell_part far_place far_in on_switch both_up joined new mark marks route hops first_among first_above first_link lowest_from cell_size place_of first_of linked distances_from distance nearer hop is_arrived goal usable is_candidate best_below first_found choice reachable first_level reroute_on step_from step_on hall table packet
 no_route_lem = refl

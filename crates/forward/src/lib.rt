@@ -17,7 +17,7 @@ ghost use Rattle.ends.specs.Tables.{step_length, cell_part, far_place};
 ghost use Rattle.forward.specs.Packets.{cleared, tidied, proxied, retried, aged, is_arrived, goal, sent, ended, one_more};
 ghost use Rattle.forward.specs.Seen.{seen, usable};
 ghost use Rattle.forward.specs.Proxies.{choice};
-ghost use Rattle.forward.specs.Steps.{stepFrom, rerouteOn, step};
+ghost use Rattle.forward.specs.Steps.{step_from, reroute_on, step};
 ghost use Rattle.forward.specs.Journeys.{trip};
 ghost use Rattle.forward.specs.Answers.{most_passed, refused_step, step_of, journey_from, refused_journey, journey_of};
 ghost use Rattle.forward.specs.Inside.{Here, Target, Ahead, Standing, Stopped, Above, Placed, Crossed, Servers, Sound, Departing, held, lent, cleared_if, way_to, way_over, outlook_of, turn_of, asks_below};
@@ -580,7 +580,7 @@ fn step_from(
     outlook: Outlook,
 ) -> Step
     requires { Standing h whole table.now me p × (outlook ≡ outlook_of h (seen h (lent h whole table.now me)) me came.dst (goal p)) }
-    ensures { result ≡ stepFrom h (seen h (lent h whole table.now me)) me came p arrived }
+    ensures { result ≡ step_from h (seen h (lent h whole table.now me)) me came p arrived }
 {
     match outlook {
         Outlook::Next { uid } => sent(uid, p),
@@ -602,7 +602,7 @@ fn reroute(
     arrived: bool,
 ) -> Step
     requires { Stopped h whole table.now me link p }
-    ensures { result ≡ rerouteOn h (seen h (lent h whole table.now me)) me came p.retry link p arrived }
+    ensures { result ≡ reroute_on h (seen h (lent h whole table.now me)) me came p.retry link p arrived }
 {
     if p.retry <= 1 {
         return ended(DROP_RETRY, came);

@@ -26,9 +26,9 @@ module _ (v w f : ℕ) where
   header_version d = sym (ask_fails bad_version _ _ (ne_eqb v the_version d))
 
   module _ (a : v ≡ the_version) where
-    pub header-DHL : (w ≡ words_with false → ⊥) → (w ≡ words_with true → ⊥) → bad_DHL ≡ in_order (asks_header v w f)
+    pub header_DHL : (w ≡ words_with false → ⊥) → (w ≡ words_with true → ⊥) → bad_DHL ≡ in_order (asks_header v w f)
     unfolding asks_header
-    header-DHL d g =
+    header_DHL d g =
         sym
         (ask_holds bad_version _ _ (eq-eqb v the_version a)
         ∙ ask_fails bad_DHL _ _ (rw (ne_eqb w (words_with false) d) (ne_eqb w (words_with true) g)))
@@ -40,23 +40,23 @@ module _ (v w f : ℕ) where
           (λ q. one_of w false (eqb-true w (words_with false) q))
           (λ q. one_of w true (omega (arith, words_more, eqb-false w (words_with false) q)))
 
-      pub header-flags : 1 < f → bad_flags ≡ in_order (asks_header v w f)
+      pub header_flags : 1 < f → bad_flags ≡ in_order (asks_header v w f)
       unfolding asks_header
-      header-flags h = sym (ask_holds bad_version _ _ (eq-eqb v the_version a) ∙ ask_holds bad_DHL _ _ counts ∙ ask_fails bad_flags _ _ (lt-leb f 1 h))
+      header_flags h = sym (ask_holds bad_version _ _ (eq-eqb v the_version a) ∙ ask_holds bad_DHL _ _ counts ∙ ask_fails bad_flags _ _ (lt-leb f 1 h))
 
       module _ (h : f ≤ 1) where
-        pub header-disagrees : (w ≡ words_with false + f → ⊥) → bad_PF ≡ in_order (asks_header v w f)
+        pub header_disagrees : (w ≡ words_with false + f → ⊥) → bad_PF ≡ in_order (asks_header v w f)
         unfolding asks_header
-        header-disagrees d =
+        header_disagrees d =
             sym
             (ask_holds bad_version _ _ (eq-eqb v the_version a)
             ∙ ask_holds bad_DHL _ _ counts
             ∙ ask_holds bad_flags _ _ (le-leb f 1 h)
             ∙ ask_fails bad_PF _ _ (ne_eqb w (words_with (is_pf f)) (λ e. d (e ∙ words_flagged f h))))
 
-        pub header-agrees : w ≡ words_with false + f → 0 ≡ in_order (asks_header v w f)
+        pub header_agrees : w ≡ words_with false + f → 0 ≡ in_order (asks_header v w f)
         unfolding asks_header
-        header-agrees e =
+        header_agrees e =
             sym
             (hold_accepted (asks_header v w f)
             (eq-eqb v the_version a, (counts, (le-leb f 1 h, (eq-eqb w (words_with (is_pf f)) (e ∙ sym (words_flagged f h)), tt)))))
@@ -73,24 +73,24 @@ module _ (size : ℕ) (values : ℕ → ℕ) (sum : ℕ) where
   whole_short h = sym (ask_fails short_frame _ _ (lt-leb (4 * values DHL) size h))
 
   module _ (h : 4 * values DHL ≤ size) where
-    pub whole-checksum : (values checksum ≡ sum → ⊥) → bad_checksum ≡ in_order (asks_whole size values sum)
+    pub whole_checksum : (values checksum ≡ sum → ⊥) → bad_checksum ≡ in_order (asks_whole size values sum)
     unfolding asks_whole
-    whole-checksum d = sym (ask_holds short_frame _ _ (le-leb _ _ h) ∙ ask_fails bad_checksum _ _ (ne_eqb _ _ d))
+    whole_checksum d = sym (ask_holds short_frame _ _ (le-leb _ _ h) ∙ ask_fails bad_checksum _ _ (ne_eqb _ _ d))
 
     module _ (s : values checksum ≡ sum) where
-      pub whole-address : addresses_sound values ≡ false → bad_address ≡ in_order (asks_whole size values sum)
+      pub whole_address : addresses_sound values ≡ false → bad_address ≡ in_order (asks_whole size values sum)
       unfolding asks_whole
-      whole-address q = sym (ask_holds short_frame _ _ (le-leb _ _ h) ∙ ask_holds bad_checksum _ _ (eq-eqb _ _ s) ∙ ask_fails bad_address _ _ q)
+      whole_address q = sym (ask_holds short_frame _ _ (le-leb _ _ h) ∙ ask_holds bad_checksum _ _ (eq-eqb _ _ s) ∙ ask_fails bad_address _ _ q)
 
       module _ (q : addresses_sound values ≡ true) where
-        pub whole-payload : size < 4 * values DHL + values payload_length → short_frame ≡ in_order (asks_whole size values sum)
+        pub whole_payload : size < 4 * values DHL + values payload_length → short_frame ≡ in_order (asks_whole size values sum)
         unfolding asks_whole
-        whole-payload l =
+        whole_payload l =
             sym (ask_holds short_frame _ _ (le-leb _ _ h) ∙ ask_holds bad_checksum _ _ (eq-eqb _ _ s) ∙ ask_holds bad_address _ _ q ∙ ask_fails short_frame _ _ (lt-leb _ _ l))
 
-        pub whole-sound : 4 * values DHL + values payload_length ≤ size → 0 ≡ in_order (asks_whole size values sum)
+        pub whole_sound : 4 * values DHL + values payload_length ≤ size → 0 ≡ in_order (asks_whole size values sum)
         unfolding asks_whole
-        whole-sound l = sym (hold_accepted (asks_whole size values sum) (le-leb _ _ h, (eq-eqb _ _ s, (q, (le-leb _ _ l, tt)))))
+        whole_sound l = sym (hold_accepted (asks_whole size values sum) (le-leb _ _ h, (eq-eqb _ _ s, (q, (le-leb _ _ l, tt)))))
 
 -- the asks of a frame, one part after the other
 module _ (frame : List ℕ) where
@@ -99,13 +99,13 @@ module _ (frame : List ℕ) where
   frame_short h = sym (ask_fails short_frame _ _ (lt-leb (4 * length front) (length frame) h))
 
   module _ (h : 4 * length front ≤ length frame) where
-    pub frame-header : (in_order (field_asks frame) ≡ 0 → ⊥) → in_order (field_asks frame) ≡ frame_refusal frame
+    pub frame_header : (in_order (field_asks frame) ≡ 0 → ⊥) → in_order (field_asks frame) ≡ frame_refusal frame
     unfolding frame_refusal asks_frame
-    frame-header d = sym (ask_holds short_frame _ _ (le-leb _ _ h) ∙ front_refuses (field_asks frame) (whole_asks frame) d)
+    frame_header d = sym (ask_holds short_frame _ _ (le-leb _ _ h) ∙ front_refuses (field_asks frame) (whole_asks frame) d)
 
-    pub frame-whole : in_order (field_asks frame) ≡ 0 → in_order (whole_asks frame) ≡ frame_refusal frame
+    pub frame_whole : in_order (field_asks frame) ≡ 0 → in_order (whole_asks frame) ≡ frame_refusal frame
     unfolding frame_refusal asks_frame
-    frame-whole z =
+    frame_whole z =
         sym
         (ask_holds short_frame _ _ (le-leb _ _ h)
         ∙ front_holds (field_asks frame) (whole_asks frame) (accepted_hold (field_asks frame) (header_numbered _ _ _) z))

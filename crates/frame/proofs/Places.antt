@@ -11,7 +11,7 @@ use Rattle.frame.specs.Places.{byte_of, place_in, place_of, FirstByte, Places, S
 use Rattle.frame.specs.Reading.{read_frame, PlaceTold}
 use Rattle.frame.specs.Worked.{places_told}
 use Rattle.frame.proofs.Rows.{version_in, DHL_in, flags_in}
-use Rattle.frame.proofs.Frames.{frame_short, frame-header, frame-whole}
+use Rattle.frame.proofs.Frames.{frame_short, frame_header, frame_whole}
 
 first_byte : (field : ℕ) → FirstByte field (byte_of field)
 unfolding byte_of
@@ -65,8 +65,8 @@ module _ (frame : List ℕ) where
       cases (eqb (in_order (field_asks frame)) 0)
       (λ q.
       let z = eqb-true (in_order (field_asks frame)) 0 q in
-      ap place_of z ∙ none_told.0 ∙ sym (place_refused ∙ ap place_of (sym (frame-whole frame h z)) ∙ whole_told _ _ _))
-      (λ q. ap place_of (frame-header frame h (eqb-false (in_order (field_asks frame)) 0 q)) ∙ sym place_refused)
+      ap place_of z ∙ none_told.0 ∙ sym (place_refused ∙ ap place_of (sym (frame_whole frame h z)) ∙ whole_told _ _ _))
+      (λ q. ap place_of (frame_header frame h (eqb-false (in_order (field_asks frame)) 0 q)) ∙ sym place_refused)
 
 pub place_read : PlaceTold
 place_read frame = number_place frame

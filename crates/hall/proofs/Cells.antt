@@ -11,7 +11,7 @@ use borrow.Author.Tests.{eqb-true, eq-eqb}
 use Rattle.hall.specs.Cells.{t, cell, same, sub, port, end, near, far, neighbour}
 use Rattle.combine.specs.Tests.{pick}
 use Rattle.combine.proofs.Tests.{cases}
-use Rattle.hall.proofs.Place.{sub_below, made, cell_of, inside_of, place_cell, place_inside, place_up, place-sub, port_fits, turn, leads}
+use Rattle.hall.proofs.Place.{sub_below, made, cell_of, inside_of, place_cell, place_inside, place_up, place_sub, port_fits, turn, leads}
 
 -- the two ends of the link between the sub-cells of x and y, where x and y are in one DCell of level suc j and in two of level j
 pub record Crossing (n j x y : ℕ) : Type 0 where
@@ -111,26 +111,26 @@ module _ (n : ℕ) where
 
   -- an end of a link between two sub-cells: its cells, its place, its neighbour
   module _ (j u p q : ℕ) (hp : p < t n j + 1) (hq : q < t n j + 1) (ne : p ≡ q → ⊥) where
-    pub end-cell : cell n j (end n j u p q) ≡ cell n (suc j) u * (t n j + 1) + p
+    pub end_cell : cell n j (end n j u p q) ≡ cell n (suc j) u * (t n j + 1) + p
     unfolding cell end t
-    end-cell = place_cell (t n j) (cell n (suc j) u) p (port p q) (port_fits p q (t n j) hp hq ne)
+    end_cell = place_cell (t n j) (cell n (suc j) u) p (port p q) (port_fits p q (t n j) hp hq ne)
 
-    pub end-inside : end n j u p q % t n j ≡ port p q
+    pub end_inside : end n j u p q % t n j ≡ port p q
     unfolding end cell t port
-    end-inside = place_inside (t n j) (cell n (suc j) u) p (port p q) (port_fits p q (t n j) hp hq ne)
+    end_inside = place_inside (t n j) (cell n (suc j) u) p (port p q) (port_fits p q (t n j) hp hq ne)
 
-    pub end-up : cell n (suc j) (end n j u p q) ≡ cell n (suc j) u
+    pub end_up : cell n (suc j) (end n j u p q) ≡ cell n (suc j) u
     unfolding cell end t
-    end-up = place_up (t n j) (cell n (suc j) u) p (port p q) (port_fits p q (t n j) hp hq ne) hp
+    end_up = place_up (t n j) (cell n (suc j) u) p (port p q) (port_fits p q (t n j) hp hq ne) hp
 
-    pub end-sub : sub n j (end n j u p q) ≡ p
+    pub end_sub : sub n j (end n j u p q) ≡ p
     unfolding sub end cell t port
-    end-sub = place-sub (t n j) (cell n (suc j) u) p (port p q) (port_fits p q (t n j) hp hq ne) hp
+    end_sub = place_sub (t n j) (cell n (suc j) u) p (port p q) (port_fits p q (t n j) hp hq ne) hp
 
-    pub end-neighbour : neighbour n j (end n j u p q) ≡ end n j u q p
-    end-neighbour =
+    pub end_neighbour : neighbour n j (end n j u p q) ≡ end n j u q p
+    end_neighbour =
         neighbour_cells j (end n j u p q)
-        ∙ rw (end-sub, end-inside, end-up) (turn (cell n (suc j) u * t n (suc j)) (t n j) p q ne)
+        ∙ rw (end_sub, end_inside, end_up) (turn (cell n (suc j) u * t n (suc j)) (t n j) p q ne)
         ∙ sym (end_cells j u q p)
 
   pub crossing : (j x y : ℕ) → same n (suc j) x y ≡ true → same n j x y ≡ false → Crossing n j x y
@@ -141,16 +141,16 @@ module _ (n : ℕ) where
       let hx = sub_fits j x in
       let hy = sub_fits j y in
       let c = same_eq (suc j) x y up in
-      let nx : same n j x (near n j x y) ≡ true = eq_same j x (near n j x y) (cell_down j x ∙ sym (end-cell j x (sub n j x) (sub n j y) hx hy ne)) in
-      let fy : same n j (far n j x y) y ≡ true = eq_same j (far n j x y) y (cc (end-cell j x (sub n j y) (sub n j x) hy hx en, cell_down j y)) in
-      let fx : same n (suc j) x (far n j x y) ≡ true = eq_same (suc j) x (far n j x y) (sym (end-up j x (sub n j y) (sub n j x) hy hx en)) in
+      let nx : same n j x (near n j x y) ≡ true = eq_same j x (near n j x y) (cell_down j x ∙ sym (end_cell j x (sub n j x) (sub n j y) hx hy ne)) in
+      let fy : same n j (far n j x y) y ≡ true = eq_same j (far n j x y) y (cc (end_cell j x (sub n j y) (sub n j x) hy hx en, cell_down j y)) in
+      let fx : same n (suc j) x (far n j x y) ≡ true = eq_same (suc j) x (far n j x y) (sym (end_up j x (sub n j y) (sub n j x) hy hx en)) in
       record {
         up = up;
         apart = apart;
         here = nx;
         there = fy;
-        across = end-neighbour j x (sub n j x) (sub n j y) hx hy ne;
-        back = end-neighbour j x (sub n j y) (sub n j x) hy hx en;
+        across = end_neighbour j x (sub n j x) (sub n j y) hx hy ne;
+        back = end_neighbour j x (sub n j y) (sub n j x) hy hx en;
         link_up = same_trans (suc j) (near n j x y) x (far n j x y) (same_sym (suc j) x (near n j x y) (same_up j x (near n j x y) nx)) fx;
         link_apart = cases (same n j (near n j x y) (far n j x y))
             (λ k. absurd (true≢false (sym (same_trans j x (near n j x y) y nx (same_trans j (near n j x y) (far n j x y) y k fy)) ∙ apart)))
@@ -160,35 +160,35 @@ module _ (n : ℕ) where
 
   -- each server is an end of one link of level suc j, and its neighbour is the other end
   module _ (pos : 0 < n) where
-    pub t-pos : (i : ℕ) → 0 < t n i
+    pub t_pos : (i : ℕ) → 0 < t n i
     unfolding t
-    t-pos zero = pos
-    t-pos (suc i) = let h = t-pos i in omega arith
+    t_pos zero = pos
+    t_pos (suc i) = let h = t_pos i in omega arith
 
-    pub is-end : (j u : ℕ) → (q : ℕ) × (q < t n j + 1) × (sub n j u ≡ q → ⊥) × (u ≡ end n j u (sub n j u) q)
+    pub is_end : (j u : ℕ) → (q : ℕ) × (q < t n j + 1) × (sub n j u ≡ q → ⊥) × (u ≡ end n j u (sub n j u) q)
     unfolding end cell sub t
-    is-end j u =
-        let l = leads (sub n j u) (u % t n j) (t n j) (mod-lt u (t-pos j)) (sub_fits j u) in
-        (l.0, l.1, l.2, made (t n j) u ∙ ap (λ (k : ℕ). cell n (suc j) u * t n (suc j) + (sub n j u * t n j + k)) (inside_of (t n j) u (t-pos j) ∙ sym l.3))
+    is_end j u =
+        let l = leads (sub n j u) (u % t n j) (t n j) (mod-lt u (t_pos j)) (sub_fits j u) in
+        (l.0, l.1, l.2, made (t n j) u ∙ ap (λ (k : ℕ). cell n (suc j) u * t n (suc j) + (sub n j u * t n j + k)) (inside_of (t n j) u (t_pos j) ∙ sym l.3))
 
-    pub neighbour-end : (j u : ℕ) → neighbour n j u ≡ end n j u (is-end j u).0 (sub n j u)
-    neighbour-end j u = let e = is-end j u in
-        ap (neighbour n j) e.3 ∙ end-neighbour j u (sub n j u) e.0 (sub_fits j u) e.1 e.2
+    pub neighbour_end : (j u : ℕ) → neighbour n j u ≡ end n j u (is_end j u).0 (sub n j u)
+    neighbour_end j u = let e = is_end j u in
+        ap (neighbour n j) e.3 ∙ end_neighbour j u (sub n j u) e.0 (sub_fits j u) e.1 e.2
 
-    pub neighbour-neighbour : (j u : ℕ) → neighbour n j (neighbour n j u) ≡ u
-    neighbour-neighbour j u = let e = is-end j u in
-        ap (neighbour n j) (neighbour-end j u) ∙ end-neighbour j u e.0 (sub n j u) e.1 (sub_fits j u) (λ z. e.2 (sym z)) ∙ sym e.3
+    pub neighbour_neighbour : (j u : ℕ) → neighbour n j (neighbour n j u) ≡ u
+    neighbour_neighbour j u = let e = is_end j u in
+        ap (neighbour n j) (neighbour_end j u) ∙ end_neighbour j u e.0 (sub n j u) e.1 (sub_fits j u) (λ z. e.2 (sym z)) ∙ sym e.3
 
-    neighbour-sub : (j u : ℕ) → sub n j (neighbour n j u) ≡ (is-end j u).0
-    neighbour-sub j u = let e = is-end j u in
-        ap (sub n j) (neighbour-end j u) ∙ end-sub j u e.0 (sub n j u) e.1 (sub_fits j u) (λ z. e.2 (sym z))
+    neighbour_sub : (j u : ℕ) → sub n j (neighbour n j u) ≡ (is_end j u).0
+    neighbour_sub j u = let e = is_end j u in
+        ap (sub n j) (neighbour_end j u) ∙ end_sub j u e.0 (sub n j u) e.1 (sub_fits j u) (λ z. e.2 (sym z))
 
-    pub neighbour-stays : (j u : ℕ) → same n (suc j) u (neighbour n j u) ≡ true
-    neighbour-stays j u = let e = is-end j u in
-        eq_same (suc j) u (neighbour n j u) (sym (ap (cell n (suc j)) (neighbour-end j u) ∙ end-up j u e.0 (sub n j u) e.1 (sub_fits j u) (λ z. e.2 (sym z))))
+    pub neighbour_stays : (j u : ℕ) → same n (suc j) u (neighbour n j u) ≡ true
+    neighbour_stays j u = let e = is_end j u in
+        eq_same (suc j) u (neighbour n j u) (sym (ap (cell n (suc j)) (neighbour_end j u) ∙ end_up j u e.0 (sub n j u) e.1 (sub_fits j u) (λ z. e.2 (sym z))))
 
-    pub neighbour-leaves : (j u : ℕ) → same n j u (neighbour n j u) ≡ false
-    neighbour-leaves j u = let e = is-end j u in
+    pub neighbour_leaves : (j u : ℕ) → same n j u (neighbour n j u) ≡ false
+    neighbour_leaves j u = let e = is_end j u in
         cases (same n j u (neighbour n j u))
-        (λ s. absurd (e.2 (same_sub j u (neighbour n j u) s ∙ neighbour-sub j u)))
+        (λ s. absurd (e.2 (same_sub j u (neighbour n j u) s ∙ neighbour_sub j u)))
         (λ s. s)

@@ -21,7 +21,7 @@ use Rattle.hall.specs.Refusals.{refusal}
 use Rattle.hall.specs.Cells.{t, g}
 use Rattle.hall.specs.Halls.{places, top, most_n, Sized, capacity, n_fits, k_fits, b_fits, count_fits, valid, servers, largest}
 use Rattle.hall.specs.Answers.{size_at, size_of, sizes_of}
-use Rattle.hall.proofs.Cells.{t-pos}
+use Rattle.hall.proofs.Cells.{t_pos}
 
 pub t_more : (n m i : ℕ) → n ≤ m → t n i ≤ t m i
 unfolding t
@@ -38,7 +38,7 @@ t_up n i (suc j) h = cases (leb i j)
 -- a cell has more servers than a sub-cell
 pub t_grows : (n i : ℕ) → 0 < n → t n i < t n (suc i)
 unfolding t
-t_grows n i pos = let h = t-pos n pos i in omega (arith, mul-le-mul h h)
+t_grows n i pos = let h = t_pos n pos i in omega (arith, mul-le-mul h h)
 
 -- no hall is larger than that of the most servers on a switch and the highest level
 pub t_fits : (n k i : ℕ) → Sized n k → i ≤ k → t n i ≤ largest
@@ -99,7 +99,7 @@ valid_known h e =
 
 -- every size of a valid hall is positive and bounded
 pub valid_pos : (h : Hall) → Valid h → (i : ℕ) → 0 < t h.n i
-valid_pos h v i = t-pos h.n (omega arith) i
+valid_pos h v i = t_pos h.n (omega arith) i
 
 pub valid_size : (h : Hall) → Valid h → (i : ℕ) → i ≤ h.k → t h.n i ≤ largest
 valid_size h v i l = t_fits h.n h.k i v.sized l

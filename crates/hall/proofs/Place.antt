@@ -22,8 +22,8 @@ module _ (T c p r : ℕ) (hr : r < T) where
     pub place_up : (c * ((T + 1) * T) + (p * T + r)) / ((T + 1) * T) ≡ c
     place_up = digits_div c (digits_lt hp hr)
 
-    pub place-sub : (c * ((T + 1) * T) + (p * T + r)) % ((T + 1) * T) / T ≡ p
-    place-sub = ap (λ (k : ℕ). k / T) (digits_mod c (digits_lt hp hr)) ∙ digits_div p hr
+    pub place_sub : (c * ((T + 1) * T) + (p * T + r)) % ((T + 1) * T) / T ≡ p
+    place_sub = ap (λ (k : ℕ). k / T) (digits_mod c (digits_lt hp hr)) ∙ digits_div p hr
 
 -- a server's cell of T, from its cell of (T + 1) * T and its sub-cell. It holds of T = 0 too, where both sides are 0
 pub sub_below : (T u : ℕ) → u % ((T + 1) * T) / T < T + 1

@@ -12,7 +12,7 @@ use Rattle.combine.proofs.Tests.{cases, both_right}
 use Rattle.hall.specs.Cells.{t}
 use Rattle.hall.specs.Halls.{most_n, top, largest, Sized, racks, capacity, n_fits, k_fits, count_fits}
 use Rattle.hall.specs.Answers.{racks_of}
-use Rattle.hall.proofs.Cells.{t-pos}
+use Rattle.hall.proofs.Cells.{t_pos}
 use Rattle.hall.proofs.Growth.{t_fits, t_up}
 
 -- the DCell1s that a hall can have, as the call works them out
@@ -35,11 +35,11 @@ module _ (n : ℕ) where
       e ∙ ap (λ (k : ℕ). (t n (suc m) + 1) * k) (racks_size m) ∙ omega arith
 
   pub racks_div : 0 < n → (m : ℕ) → t n (suc m) / t n 1 ≡ racks n m
-  racks_div pos m = ap (λ (k : ℕ). k / t n 1) (racks_size m) ∙ mul-div_left (racks n m) (t-pos n pos 1)
+  racks_div pos m = ap (λ (k : ℕ). k / t n 1) (racks_size m) ∙ mul-div_left (racks n m) (t_pos n pos 1)
 
   -- it has at least as many servers
   pub racks_low : 0 < n → (m : ℕ) → racks n m ≤ t n (suc m)
-  racks_low pos m = rw (racks_size m) (omega (arith, mul-le-mul_left (racks n m) (t-pos n pos 1)))
+  racks_low pos m = rw (racks_size m) (omega (arith, mul-le-mul_left (racks n m) (t_pos n pos 1)))
 
 -- without servers on a switch there is one DCell1 of none
 t_none : (i : ℕ) → t 0 i ≡ 0
@@ -77,7 +77,7 @@ module _ (n k j : ℕ) (pos : 0 < n) (z : Sized n k) (l : suc j < k) where
       let rf : (t n (suc j) + 1) * racks n j ≤ largest = le_trans (mul-le-mul_left (t n (suc j) + 1) (racks_low n pos j)) up in
       let gs : t n 1 + 1 ≤ t n (suc j) + 1 = omega (arith, t_up n 1 (suc j) (omega arith)) in
       record {
-        s_pos = t-pos n pos (suc j);
+        s_pos = t_pos n pos (suc j);
         r_pos = racks_pos n j;
         g_high = gs;
         s_fits = t_fits n k (suc j) z (omega arith);

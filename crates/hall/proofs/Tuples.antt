@@ -16,8 +16,8 @@ use Rattle.combine.proofs.Lists.{get_or-up_to}
 use Rattle.hall.specs.Cells.{t, g, same, sub}
 use Rattle.hall.specs.Halls.{places}
 use Rattle.hall.specs.Tuples.{entry, limit, uid_up_to, entry_fits, tuple_fits, entry_at, tuple}
-use Rattle.hall.proofs.Place.{inside_of, place-sub}
-use Rattle.hall.proofs.Cells.{t-pos, sub_fits, same_mono, same_sub, sub_same}
+use Rattle.hall.proofs.Place.{inside_of, place_sub}
+use Rattle.hall.proofs.Cells.{t_pos, sub_fits, same_mono, same_sub, sub_same}
 use Rattle.hall.proofs.Links.{hall_same}
 
 module _ (n : ℕ) where
@@ -49,7 +49,7 @@ module _ (n : ℕ) where
   uid_of_entries pos a u (suc j) e =
       let ih = uid_of_entries pos a u j (λ i h. e i (omega arith)) in
       let d = div-add-mod' (u % ((t n j + 1) * t n j)) (t n j) in
-      let m = inside_of (t n j) u (t-pos n pos j) in
+      let m = inside_of (t n j) u (t_pos n pos j) in
       let s = e (suc j) (omega arith) in
       rw (ih, s) (omega arith)
 
@@ -72,7 +72,7 @@ module _ (n : ℕ) where
       last : get_or a (suc i) 0 < t n i + 1 → uid_up_to n i a < t n i → sub n i (c * ((t n i + 1) * t n i) + (uid_up_to n i a + get_or a (suc i) 0 * t n i)) ≡ get_or a (suc i) 0
       last e b =
           let p : c * ((t n i + 1) * t n i) + (uid_up_to n i a + get_or a (suc i) 0 * t n i) ≡ c * ((t n i + 1) * t n i) + (get_or a (suc i) 0 * t n i + uid_up_to n i a) = omega arith in
-          rw p (place-sub (t n i) c (get_or a (suc i) 0) (uid_up_to n i a) b e)
+          rw p (place_sub (t n i) c (get_or a (suc i) 0) (uid_up_to n i a) b e)
 
   -- an entry of a server is within its limit
   pub entry_below : 0 < n → (u i : ℕ) → entry n i u < limit n i

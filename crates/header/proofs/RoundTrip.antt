@@ -79,51 +79,51 @@ module _ (fields : Fields) (typed : Typed fields) (retried : fields.retry ≤ mo
       abbrev sent : List ℕ
       sent = header_bytes fields ++ (payload ++ padding)
 
-      sent-words : (i : ℕ) → i < count_of fields → word_at sent i ≡ header_words fields i
+      sent_words : (i : ℕ) → i < count_of fields → word_at sent i ≡ header_words fields i
       unfolding header_bytes
-      sent-words i h = word_written (header_words fields) (count_of fields) i (payload ++ padding) h (words_fitting i)
+      sent_words i h = word_written (header_words fields) (count_of fields) i (payload ++ padding) h (words_fitting i)
 
-      sent-values : value_in (word_at sent) ≡ kept fields
+      sent_values : value_in (word_at sent) ≡ kept fields
       unfolding header_words sealed values_of
-      sent-values =
-          values_written fields.has_proxy (sealed fields) (word_at sent) (PF_told fields.has_proxy) values_fitting sent-words
+      sent_values =
+          values_written fields.has_proxy (sealed fields) (word_at sent) (PF_told fields.has_proxy) values_fitting sent_words
 
-      sent-sum : header_checksum (word_at sent) (count_of fields) ≡ sum_of fields
-      sent-sum = checksum_cong (word_at sent) (header_words fields) (count_of fields) sent-words ∙ sum-written fields
+      sent_sum : header_checksum (word_at sent) (count_of fields) ≡ sum_of fields
+      sent_sum = checksum_cong (word_at sent) (header_words fields) (count_of fields) sent_words ∙ sum-written fields
 
-      sent-sound : SoundFrame sent
+      sent_sound : SoundFrame sent
       unfolding kept_by sealed values_of within has
-      sent-sound =
+      sent_sound =
           let n = words_fit fields.has_proxy in
           let l = length-append (header_bytes fields) (payload ++ padding) in
           let m = length-append payload padding in
           let h = header_long fields in
-          rw sent-values
+          rw sent_values
           (record {
             long = omega (arith, h, n.0);
             versioned = refl;
             flagged = flag_small fields.has_proxy;
             agrees = rw (PF_told fields.has_proxy);
             whole = omega (arith, h);
-            checked = sym sent-sum;
+            checked = sym sent_sum;
             addressed = addresses_kept fields ∙ kinds;
             paid = omega (arith, h);
           })
 
-      sent-accepted : frame_refusal sent ≡ 0
-      sent-accepted = sound_accepted sent sent-sound
+      sent_accepted : frame_refusal sent ≡ 0
+      sent_accepted = sound_accepted sent sent_sound
 
       -- what is written reads back to the same fields
       pub round_trip : read_frame (header_bytes fields ++ (payload ++ padding)) ≡ header_for fields
-      round_trip = accepted_read sent sent-accepted ∙ ap header_of sent-values ∙ header_kept fields
+      round_trip = accepted_read sent sent_accepted ∙ ap header_of sent_values ∙ header_kept fields
 
       -- and to the same payload
-      pub round-trip-payload : payload_of (header_bytes fields ++ (payload ++ padding)) ≡ payload
+      pub round_trip_payload : payload_of (header_bytes fields ++ (payload ++ padding)) ≡ payload
       unfolding kept_by sealed values_of within has
-      round-trip-payload =
-          accepted_payload sent sent-accepted
+      round_trip_payload =
+          accepted_payload sent sent_accepted
           ∙ rw (
-            sent-values,
+            sent_values,
             drop_at (header_bytes fields) (payload ++ padding) (4 * count_of fields) (header_long fields),
             take_at payload padding fields.payload_length stated,
           )

@@ -124,25 +124,25 @@ module _ (fields : Fields) where
         rw (e, get_or-up_to words (words_with true) i 0 (omega (arith, longest_many, n.1))) (longest_front fields.has_proxy (values_of fields) i h)
 
     -- has zero where the checksum goes, and the checksum that is written
-    pub third-word : get_or list 2 0 ≡ words 2
-    third-word = rw e (get_or-up_to words (words_with true) 2 0 (omega (arith, longest_many)))
+    pub third_word : get_or list 2 0 ≡ words 2
+    third_word = rw e (get_or-up_to words (words_with true) 2 0 (omega (arith, longest_many)))
 
     pub sum_is : header_checksum (λ i. get_or list i 0) (count_of fields) ≡ sum_of fields
     unfolding sum_of
     sum_is = checksum_cong (λ i. get_or list i 0) (laid (rows_for fields) (values_of fields)) (count_of fields) word_of
 
-    third-sealed : header_words fields 2 ≡ words 2 + sum_of fields
+    third_sealed : header_words fields 2 ≡ words 2 + sum_of fields
     unfolding header_words laid joined bits values_of sealed
-    third-sealed = omega arith
+    third_sealed = omega arith
 
-    word-sealed : (sum i : ℕ) → sum ≡ sum_of fields → i < count_of fields → get_or (set list 2 (get_or list 2 0 + sum)) i 0 ≡ header_words fields i
+    word_sealed : (sum i : ℕ) → sum ≡ sum_of fields → i < count_of fields → get_or (set list 2 (get_or list 2 0 + sum)) i 0 ≡ header_words fields i
     unfolding header_words
-    word-sealed sum i s h =
+    word_sealed sum i s h =
         let l : length list ≡ words_with true = ap length e ∙ length-up_to words (words_with true) in
         cases (eqb i 2)
         (λ q.
         let z : i ≡ 2 = eqb-true i 2 q in
-        rw (z, get_or-set_same list 2 (get_or list 2 0 + sum) 0 (omega (arith, longest_many)), third-word, s) (sym third-sealed))
+        rw (z, get_or-set_same list 2 (get_or list 2 0 + sum) 0 (omega (arith, longest_many)), third_word, s) (sym third_sealed))
         (λ q.
         let d = eqb-false i 2 q in
         get_or-set_other list 2 i (get_or list 2 0 + sum) 0 d ∙ word_of i h ∙ sym (sealed_word i d))
@@ -154,7 +154,7 @@ module _ (fields : Fields) where
     bytes_are sum count room s n =
         rw (
           n,
-          bytes_cong (λ i. get_or (set list 2 (get_or list 2 0 + sum)) i 0) (header_words fields) (count_of fields) (λ i h. word-sealed sum i s h),
+          bytes_cong (λ i. get_or (set list 2 (get_or list 2 0 + sum)) i 0) (header_words fields) (count_of fields) (λ i h. word_sealed sum i s h),
         )
 
 -- what writing answers, and the room, refusal by refusal
@@ -168,15 +168,15 @@ module _ (fields : Fields) (room : List ℕ) where
   write_retry h = refused_room 8 (rw (lt-leb fields.retry most_retry h)) (λ z. omega arith)
 
   module _ (h : fields.retry ≤ most_retry) where
-    pub write-address : addresses_fit fields.source fields.destination fields.has_proxy fields.proxy ≡ false
+    pub write_address : addresses_fit fields.source fields.destination fields.has_proxy fields.proxy ≡ false
         → (11 ≡ write_refusal fields room) × (room ≡ room_written fields room)
     unfolding write_refusal refusal
-    write-address q = refused_room 11 (rw (le-leb fields.retry most_retry h, q)) (λ z. omega arith)
+    write_address q = refused_room 11 (rw (le-leb fields.retry most_retry h, q)) (λ z. omega arith)
 
     module _ (q : addresses_fit fields.source fields.destination fields.has_proxy fields.proxy ≡ true) where
-      pub write-short : length room < 4 * count_of fields → (6 ≡ write_refusal fields room) × (room ≡ room_written fields room)
+      pub write_short : length room < 4 * count_of fields → (6 ≡ write_refusal fields room) × (room ≡ room_written fields room)
       unfolding write_refusal refusal
-      write-short l = refused_room 6 (rw (le-leb fields.retry most_retry h, q, lt-leb (4 * count_of fields) (length room) l)) (λ z. omega arith)
+      write_short l = refused_room 6 (rw (le-leb fields.retry most_retry h, q, lt-leb (4 * count_of fields) (length room) l)) (λ z. omega arith)
 
       pub write_done : 4 * count_of fields ≤ length room
           → (0 ≡ write_refusal fields room) × (header_bytes fields ++ drop (4 * count_of fields) room ≡ room_written fields room)
@@ -196,8 +196,8 @@ module _ (fields : Fields) (room : List ℕ) where
       (λ q.
       cases (leb (4 * count_of fields) (length room))
       (λ l. (h, q, leb-true (4 * count_of fields) (length room) l))
-      (λ l. absurd (omega (arith, e, (write-short h q (leb-false (4 * count_of fields) (length room) l)).0))))
-      (λ q. absurd (omega (arith, e, (write-address h q).0))))
+      (λ l. absurd (omega (arith, e, (write_short h q (leb-false (4 * count_of fields) (length room) l)).0))))
+      (λ q. absurd (omega (arith, e, (write_address h q).0))))
       (λ a. absurd (omega (arith, e, (write_retry (leb-false fields.retry most_retry a)).0)))
 
   -- the room then begins with the header

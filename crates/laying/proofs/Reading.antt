@@ -14,7 +14,7 @@ use Rattle.words.proofs.Words.{drop_bytes}
 use Rattle.words.proofs.Bytes.{bytes_long, value_laid, drop-laid, value_fits}
 use Rattle.sheet.specs.Formats.{Format, done, field, and_then, read}
 use Rattle.sheet.specs.Sheets.{times}
-use Rattle.sheet.proofs.Reading.{onward, read_done, read_sound, read_wrong, read_cut, read-cases}
+use Rattle.sheet.proofs.Reading.{onward, read_done, read_sound, read_wrong, read_cut, read_cases}
 use Rattle.sheet.proofs.Numbers.{Numbers, at_end, numbers}
 use Rattle.laying.specs.Filled.{Filled, ended, put, result, laid, judged, FirstUnsound, here, further, All, Fits, Sound, values_in, fill_then, each, joined, Every}
 
@@ -101,7 +101,7 @@ accepted_laid (done u) s b at v next e =
     (tt, (cc q), omega arith, ap (λ (n : ℕ). drop n s) z)
 accepted_laid (field width sound number behind) s b at v next e =
     let u = value s at width in
-    read-cases s width sound number behind at
+    read_cases s width sound number behind at
     (λ h t. let r = accepted_laid (behind u) s b (at + width) v next (sym (read_sound s width sound number behind at h t) ∙ e) in
     let n : next ≡ at + length (bytes_of width u ++ laid (values_in (behind u) s (at + width))) =
     omega (arith, r.2, length-append (bytes_of width u) (laid (values_in (behind u) s (at + width))), bytes_long width u) in (

@@ -110,10 +110,10 @@ module _ (s : List ℕ) (read : Sheet) (first : List ℕ) (from lines : ℕ) whe
         → Fitted s read first from (lines - from) (record { refusal = 0; next = next; end = end }) room
     ends e = (rw (e, u.at, u.place), rw e u.text)
 
-    pub ends-full : next < lines → (w : Written) (after : List ℕ)
+    pub ends_full : next < lines → (w : Written) (after : List ℕ)
         → Lined room end (line_text s read next) w after → (w.refusal ≡ 0 → ⊥)
         → Fitted s read first from (lines - from) (record { refusal = 0; next = next; end = end }) after
-    ends-full h w after e d =
+    ends_full h w after e d =
         let n = written_short room end (line_text s read next) w after e d in
         let k = kept in
         let f = fitting_full s read (length first - end) next u.more (omega (arith, n.0, u.within)) in
@@ -154,22 +154,22 @@ module _ (s : List ℕ) (from : ℕ) (room : List ℕ) where
       (λ q. leb-false (length (line_text s read from)) (length room) q)
 
   module _ (read : Sheet) (lines : ℕ) (same : read ≡ sheet_of s) (counted : lines ≡ line_count read) where
-    pub piece-range : (r : Piece) → lines ≤ from → r ≡ record { refusal = bad_range; next = 0; end = 0 } → (r ≡ piece_of s from room) × (room ≡ room_piece s from room)
-    piece-range r h e = let n = refused_range (rw (← same, ← counted) h) in rw n (e, refl)
+    pub piece_range : (r : Piece) → lines ≤ from → r ≡ record { refusal = bad_range; next = 0; end = 0 } → (r ≡ piece_of s from room) × (room ≡ room_piece s from room)
+    piece_range r h e = let n = refused_range (rw (← same, ← counted) h) in rw n (e, refl)
 
     module _ (r : Piece) (after : List ℕ) (h : from < lines)
         (e : Fitted s read room from (lines - from) r after) where
-      pub piece-short : r.next ≡ from → (w : Piece) → w ≡ record { refusal = short_room; next = 0; end = 0 }
+      pub piece_short : r.next ≡ from → (w : Piece) → w ≡ record { refusal = short_room; next = 0; end = 0 }
           → (w ≡ piece_of s from room) × (after ≡ room_piece s from room)
-      piece-short q w f =
+      piece_short q w f =
           let z : fitting s read (length room) from (lines - from) ≡ 0 = omega (arith, q, ap (λ (x : Piece). x.next) e.0) in
           let l = none_fits read (lines - from) (omega arith) z in
           let n = refused_room (rw (← same, ← counted) h) (rw (← same) l) in
           let a : after ≡ room = e.1 ∙ rw (z, lines_none s read from) (put_none room 0) in
           rw n (f, a)
 
-      pub piece-written : (r.next ≡ from → ⊥) → (r ≡ piece_of s from room) × (after ≡ room_piece s from room)
-      piece-written d =
+      pub piece_written : (r.next ≡ from → ⊥) → (r ≡ piece_of s from room) × (after ≡ room_piece s from room)
+      piece_written d =
           let f : 0 < fitting s read (length room) from (lines - from) = omega (arith, d, ap (λ (x : Piece). x.next) e.0) in
           let n = not_refused (rw (← same, ← counted) h) (rw (← same) (first_fits read (lines - from) f)) in
           rw (n, ← same, ← counted) e
@@ -216,8 +216,8 @@ module _ (s : List ℕ) (from : ℕ) (room : List ℕ) where
   -- what it brings: a line at least, no line that the trace does not have, and no byte behind the room
   pub record Forward (r : Piece) : Type 0 where
     pub above : from < r.next
-    pub in-trace : r.next ≤ line_count (sheet_of s)
-    pub in-room : r.end ≤ length room
+    pub in_trace : r.next ≤ line_count (sheet_of s)
+    pub in_room : r.end ≤ length room
 
   pub goes_forward : (r : Piece) → r ≡ piece_of s from room → r.refusal ≡ 0 → Forward r
   goes_forward r e z =
@@ -227,6 +227,6 @@ module _ (s : List ℕ) (from : ℕ) (room : List ℕ) where
       let m = fitting_more s (sheet_of s) (length room) from left (omega (arith, a.0)) a.1 in
       record {
         above = omega (arith, ap (λ (x : Piece). x.next) p, m);
-        in-trace = omega (arith, ap (λ (x : Piece). x.next) p, a.0, fitting_within s (sheet_of s) (length room) from left);
-        in-room = omega (arith, ap (λ (x : Piece). x.end) p, fitting_length s (sheet_of s) (length room) from left);
+        in_trace = omega (arith, ap (λ (x : Piece). x.next) p, a.0, fitting_within s (sheet_of s) (length room) from left);
+        in_room = omega (arith, ap (λ (x : Piece). x.end) p, fitting_length s (sheet_of s) (length room) from left);
       }

@@ -12,8 +12,8 @@ use Rattle.sums.specs.Sums.{sum, one}
 use Rattle.sums.proofs.Sums.{sum_ext, sum_const, sum-times, sum-add, sum_swap, sum_blocks, count_one, count_not}
 use Rattle.combine.proofs.Tests.{cases}
 use Rattle.hall.specs.Cells.{t, cell, same, sub, port, end, near}
-use Rattle.hall.proofs.Place.{place_cell, place_up, place-sub, port_lt, port_ge}
-use Rattle.hall.proofs.Cells.{same_eq, eq_same, same_sub, sub_fits, cell_down, end_cells, t-pos}
+use Rattle.hall.proofs.Place.{place_cell, place_up, place_sub, port_lt, port_ge}
+use Rattle.hall.proofs.Cells.{same_eq, eq_same, same_sub, sub_fits, cell_down, end_cells, t_pos}
 
 -- the sum over the DCell of level l around x: its servers are cell × t + r for r below t
 abbrev pub around : ℕ → ℕ → ℕ → (ℕ → ℕ) → ℕ
@@ -80,12 +80,12 @@ module _ (n : ℕ) where
     unfolding near t
     near_at q y s = ap (end n j x (sub n j x)) s ∙ end_cells n j x (sub n j x) q ∙ rw (cell_down n j x) (omega arith)
 
-    apart-at : (q r : ℕ) → q < t n j + 1 → (sub n j x ≡ q → ⊥) → r < t n j
+    apart_at : (q r : ℕ) → q < t n j + 1 → (sub n j x ≡ q → ⊥) → r < t n j
         → f (cell n (suc j) x * ((t n j + 1) * t n j) + (q * t n j + r)) ≡ g (cell n j x * t n j + port (sub n j x) q)
-    apart-at q r hq ne hr =
+    apart_at q r hq ne hr =
         let y : ℕ = cell n (suc j) x * ((t n j + 1) * t n j) + (q * t n j + r) in
         let c : cell n (suc j) y ≡ cell n (suc j) x = unfold cell t in place_up (t n j) (cell n (suc j) x) q r hr hq in
-        let s : sub n j y ≡ q = unfold sub t in place-sub (t n j) (cell n (suc j) x) q r hr hq in
+        let s : sub n j y ≡ q = unfold sub t in place_sub (t n j) (cell n (suc j) x) q r hr hq in
         let a : same n j x y ≡ false = cases (same n j x y) (λ k. absurd (ne (same_sub n j x y k ∙ s))) (λ k. k) in
         h y (eq_same n (suc j) x y (sym c)) a ∙ ap g (near_at q y s)
 
@@ -93,7 +93,7 @@ module _ (n : ℕ) where
     unfolding inner
     block q hq ne =
         sum_ext (λ r. f (cell n (suc j) x * ((t n j + 1) * t n j) + (q * t n j + r))) (λ _. g (cell n j x * t n j + port (sub n j x) q)) (t n j)
-        (λ r k. apart-at q r hq ne k)
+        (λ r k. apart_at q r hq ne k)
         ∙ sum_const (g (cell n j x * t n j + port (sub n j x) q)) (t n j)
 
     own : inner (sub n j x) ≡ around n j x f
@@ -101,9 +101,9 @@ module _ (n : ℕ) where
     own = sum_ext (λ r. f (cell n (suc j) x * ((t n j + 1) * t n j) + (sub n j x * t n j + r))) (λ r. f (cell n j x * t n j + r)) (t n j)
         (λ r _. ap f (rw (cell_down n j x) (omega arith)))
 
-    pub around-split : around n (suc j) x f ≡ around n j x f + t n j * around n j x g
+    pub around_split : around n (suc j) x f ≡ around n j x f + t n j * around n j x g
     unfolding t inner
-    around-split =
+    around_split =
         sum_blocks (λ r. f (cell n (suc j) x * ((t n j + 1) * t n j) + r)) (t n j) (t n j + 1)
         ∙ sum_skip inner (λ r. t n j * g (cell n j x * t n j + r)) (sub n j x) (t n j) (sub_fits n j x) block
         ∙ ap₂ ◌+◌ own (sum-times (t n j) (λ r. g (cell n j x * t n j + r)) (t n j))
@@ -112,40 +112,40 @@ module _ (n : ℕ) where
   pub around_inside : (j u : ℕ) (f : ℕ → ℕ) → ((y : ℕ) → same n (suc j) u y ≡ true → same n j u y ≡ false → f y ≡ 0)
       → around n (suc j) u f ≡ around n j u f
   around_inside j u f h =
-      around-split j u f (λ _. 0) h ∙ ap (λ (m : ℕ). around n j u f + t n j * m) (around_const j u 0) ∙ omega arith
+      around_split j u f (λ _. 0) h ∙ ap (λ (m : ℕ). around n j u f + t n j * m) (around_const j u 0) ∙ omega arith
 
   module _ (pos : 0 < n) where
     -- a DCell is its sub-cells, each with the same sum
-    pub around-cells : (j u c : ℕ) (f : ℕ → ℕ) → ((x : ℕ) → around n j x f ≡ c) → around n (suc j) u f ≡ (t n j + 1) * c
+    pub around_cells : (j u c : ℕ) (f : ℕ → ℕ) → ((x : ℕ) → around n j x f ≡ c) → around n (suc j) u f ≡ (t n j + 1) * c
     unfolding t
-    around-cells j u c f h =
+    around_cells j u c f h =
         let first : ℕ → ℕ = λ q. cell n (suc j) u * ((t n j + 1) * t n j) + (q * t n j + 0) in
         sum_blocks (λ r. f (cell n (suc j) u * ((t n j + 1) * t n j) + r)) (t n j) (t n j + 1)
         ∙ sum_ext (λ q. sum (λ r. f (cell n (suc j) u * ((t n j + 1) * t n j) + (q * t n j + r))) (t n j)) (λ _. c) (t n j + 1)
-        (λ q _. let e : cell n j (first q) ≡ cell n (suc j) u * (t n j + 1) + q = unfold cell in place_cell (t n j) (cell n (suc j) u) q 0 (t-pos n pos j) in
+        (λ q _. let e : cell n j (first q) ≡ cell n (suc j) u * (t n j + 1) + q = unfold cell in place_cell (t n j) (cell n (suc j) u) q 0 (t_pos n pos j) in
         sum_ext (λ r. f (cell n (suc j) u * ((t n j + 1) * t n j) + (q * t n j + r))) (λ r. f (cell n j (first q) * t n j + r)) (t n j)
         (λ r _. ap f (rw e (omega arith)))
         ∙ h (first q))
         ∙ sum_const c (t n j + 1)
 
     -- a DCell has x once
-    pub around-self : (l x : ℕ) → around n l x (λ y. one (eqb x y)) ≡ 1
-    around-self l x =
+    pub around_self : (l x : ℕ) → around n l x (λ y. one (eqb x y)) ≡ 1
+    around_self l x =
         let e : cell n l x * t n l + x % t n l ≡ x = unfold cell in div-add-mod' x (t n l) in
         sum_ext (λ r. one (eqb x (cell n l x * t n l + r))) (λ r. one (eqb (x % t n l) r)) (t n l)
         (λ r _. ap one (cases (eqb (x % t n l) r)
         (λ q. let k = eqb-true (x % t n l) r q in eq-eqb x (cell n l x * t n l + r) (omega arith) ∙ sym q)
         (λ q. let k = eqb-false (x % t n l) r q in ne_eqb x (cell n l x * t n l + r) (λ z. k (omega arith)) ∙ sym q)))
-        ∙ count_one (x % t n l) (t n l) (mod-lt x (t-pos n pos l))
+        ∙ count_one (x % t n l) (t n l) (mod-lt x (t_pos n pos l))
 
     -- the servers of a DCell0 but one
-    pub around-others : (x : ℕ) → around n zero x (λ y. one (not (eqb x y))) ≡ n - 1
+    pub around_others : (x : ℕ) → around n zero x (λ y. one (not (eqb x y))) ≡ n - 1
     unfolding t
-    around-others x = omega (arith, count_not (λ r. eqb x (cell n zero x * t n zero + r)) (t n zero), around-self zero x)
+    around_others x = omega (arith, count_not (λ r. eqb x (cell n zero x * t n zero + r)) (t n zero), around_self zero x)
 
     -- a DCell of level suc j has t j servers in the sub-cell of x
-    pub around-same : (j x : ℕ) → around n (suc j) x (λ y. one (same n j x y)) ≡ t n j
-    around-same j x =
+    pub around_same : (j x : ℕ) → around n (suc j) x (λ y. one (same n j x y)) ≡ t n j
+    around_same j x =
         around_inside j x (λ y. one (same n j x y)) (λ y _ a. unfold one in (rw a))
         ∙ around_ext j x (λ y. one (same n j x y)) (λ _. 1) (λ y a. unfold one in (rw a))
         ∙ around_const j x 1

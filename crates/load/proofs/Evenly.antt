@@ -15,9 +15,9 @@ use Rattle.load.specs.Counts.{begins, all_links}
 use Rattle.load.specs.Figures.{share, load, loads, upper}
 use Rattle.load.specs.Evenly.{Evenly, EveryLevel}
 use Rattle.load.proofs.Figures.{share_top, load_top, all_shares, rest_share, load_under, switch_under, cable_under}
-use Rattle.load.proofs.Ports.{port-begins}
-use Rattle.load.proofs.Lengths.{all-lengths}
-use Rattle.load.proofs.Loads.{each_way, cable-carries}
+use Rattle.load.proofs.Ports.{port_begins}
+use Rattle.load.proofs.Lengths.{all_lengths}
+use Rattle.load.proofs.Loads.{each_way, cable_carries}
 
 -- with 0 servers to a switch there is no server
 no_server : (k : ℕ) → t 0 k ≡ 0
@@ -43,13 +43,13 @@ module _ (n : ℕ) where
             let pos = some_server n (suc j) u h in
             let w = each_way n pos (suc j) (suc j) u v (omega arith) h (linked_neighbour n pos j u v (rw e at l)) in
             rw e (w.0 ∙ load_top n j, w.1 ∙ load_top n j);
-        top_port = λ x h. rw e (port-begins n (some_server n (suc j) x h) (suc j) (suc j) x (omega arith) h ∙ share_top n j);
-        other_port = λ x i h low high. port-begins n (some_server n (suc j) x h) (suc j) i x (omega arith) h ∙ share_at (suc j) i low;
-        switch_port = λ x h. unfold share in (port-begins n (some_server n (suc j) x h) (suc j) 0 x (omega arith) h);
+        top_port = λ x h. rw e (port_begins n (some_server n (suc j) x h) (suc j) (suc j) x (omega arith) h ∙ share_top n j);
+        other_port = λ x i h low high. port_begins n (some_server n (suc j) x h) (suc j) i x (omega arith) h ∙ share_at (suc j) i low;
+        switch_port = λ x h. unfold share in (port_begins n (some_server n (suc j) x h) (suc j) 0 x (omega arith) h);
         one_fewer = λ x h. let pos = some_server n (suc j) x h in
-            ap (λ (m : ℕ). m + 1) (port-begins n pos (suc j) 0 x (omega arith) h) ∙ rest_share n (suc j) pos;
+            ap (λ (m : ℕ). m + 1) (port_begins n pos (suc j) 0 x (omega arith) h) ∙ rest_share n (suc j) pos;
         all_ports = λ x h. let pos = some_server n (suc j) x h in
-            let s = sum_ext (begins n (suc j) x) (share n (suc j)) (suc j + 1) (λ i l. port-begins n pos (suc j) i x (omega arith) h) in
+            let s = sum_ext (begins n (suc j) x) (share n (suc j)) (suc j + 1) (λ i l. port_begins n pos (suc j) i x (omega arith) h) in
             s ∙ rw (add-one (suc j)) (omega (arith, all_shares n (suc j) pos));
       }
 
@@ -73,12 +73,12 @@ load_below n k (suc a) u v l h e = load_under n k a (some_server n k u h) l
 loads_add : (n k : ℕ) → all_links n k ≡ t n k * loads n k
 unfolding all_links sum
 loads_add zero k = rw (no_server k) (omega arith)
-loads_add (suc m) k = all-lengths (suc m) (omega arith) k
+loads_add (suc m) k = all_lengths (suc m) (omega arith) k
 
 pub every_level : (n k : ℕ) → EveryLevel n k
 every_level n k = record {
   each_link = λ i u v l h e. each_way n (some_server n k u h) k i u v l h e;
-  each_cable = λ u h. cable-carries n (some_server n k u h) k u h;
+  each_cable = λ u h. cable_carries n (some_server n k u h) k u h;
   link_under = load_below n k;
   cable_under = λ u h. cable_under n k (some_server n k u h);
   all_links_lem = loads_add n k;

@@ -8,7 +8,7 @@ use lib.Pow.{pow_pos}
 use Rattle.sums.specs.Sums.{sum, product}
 use Rattle.sums.proofs.Sums.{sum_ext, sum-times, sum_first}
 use Rattle.hall.specs.Cells.{t, g}
-use Rattle.hall.proofs.Cells.{t-pos}
+use Rattle.hall.proofs.Cells.{t_pos}
 use Rattle.load.specs.Figures.{share, paper_rest, ways, load, cable, loads, upper}
 
 twice : (x p q : ℕ) → x * p * (2 * q) ≡ 2 * x * (p * q)
@@ -120,7 +120,7 @@ module _ (n : ℕ) where
   pub load_under : (k a : ℕ) → 0 < n → suc a ≤ k → load n k (suc a) < upper n k (suc a)
   unfolding load upper
   load_under k a pos l =
-      let h : t n a * t n a < t n (suc a) = unfold t in (omega (arith, t-pos n pos a)) in
+      let h : t n a * t n a < t n (suc a) = unfold t in (omega (arith, t_pos n pos a)) in
       below_upper k (suc a) (k - suc a) (t n a * t n a) (omega arith) h
 
   pub switch_under : (k : ℕ) → 1 < n → load n k 0 < upper n k 0

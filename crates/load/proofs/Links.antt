@@ -19,7 +19,7 @@ use Rattle.load.specs.Counts.{has, over}
 use Rattle.load.specs.Figures.{ways}
 use Rattle.load.proofs.Around.{around, around_swap}
 use Rattle.load.proofs.Figures.{ways_next}
-use Rattle.load.proofs.Pairs.{pairs, pairs_inside, pairs_hall, pairs-up}
+use Rattle.load.proofs.Pairs.{pairs, pairs_inside, pairs_hall, pairs_up}
 
 -- where the links start that join servers of which P holds
 hops_from : (P : ℕ → Type 0) (r : List ℕ) → Each P r → Each (λ e. P e.0) (hops r)
@@ -48,10 +48,10 @@ module _ (p : ℕ → ℕ → Bool) where
 
   module _ (n : ℕ) where
     -- the links of a route between two sub-cells
-    pub has-apart : (j x y : ℕ) → Crossing n j x y → has p (links n (suc j) x y)
+    pub has_apart : (j x y : ℕ) → Crossing n j x y → has p (links n (suc j) x y)
         ≡ either (has p (links n j x (near n j x y))) (either (p (near n j x y) (far n j x y)) (has p (links n j (far n j x y) y)))
     unfolding has
-    has-apart j x y c = ap (has p) (links_apart n j x y c.apart)
+    has_apart j x y c = ap (has p) (links_apart n j x y c.apart)
         ∙ has_append (links n j x (near n j x y)) ((near n j x y, far n j x y) ∷ links n j (far n j x y) y)
 
     -- 1 where the route from x to y, in a DCell of level l, has a link that passes
@@ -74,12 +74,12 @@ module _ (p : ℕ → ℕ → Bool) where
       no_hit x z s a = unfold one in (rw (outside x z s a))
 
       -- between two sub-cells: on the way to the near end, or on that from the far end
-      hit-apart : (x y : ℕ) → Crossing n j x y → hit (suc j) x y ≡ hit j x (near n j x y) + hit j (far n j x y) y + 0
+      hit_apart : (x y : ℕ) → Crossing n j x y → hit (suc j) x y ≡ hit j x (near n j x y) + hit j (far n j x y) y + 0
       unfolding one
-      hit-apart x y c =
+      hit_apart x y c =
           let m : p (near n j x y) (far n j x y) ≡ false = cases (p (near n j x y) (far n j x y))
           (λ q. never (inner (near n j x y) (far n j x y) q).1 c.link_apart) (λ q. q) in
-          ap one (has-apart j x y c) ∙ rw m (cases (same n j u x)
+          ap one (has_apart j x y c) ∙ rw m (cases (same n j u x)
           (λ q. let f : same n j u (far n j x y) ≡ false = cases (same n j u (far n j x y))
           (λ k. never (same_trans n j x u y (same_sym n j u x q) (same_trans n j u (far n j x y) y k c.there)) c.apart) (λ k. k) in
           let o = outside (far n j x y) y c.there f in
@@ -90,32 +90,32 @@ module _ (p : ℕ → ℕ → Bool) where
       hit_same x y s = ap (λ (r : List (ℕ × ℕ)). one (has p r)) (links_same n j x y s)
 
       -- the ways to a near end, and those from a far end, are counted in the sub-cell of u alone
-      hit-back : around n (suc j) u (λ y. around n j y (λ z. hit j z y)) ≡ total j u
-      hit-back =
+      hit_back : around n (suc j) u (λ y. around n j y (λ z. hit j z y)) ≡ total j u
+      hit_back =
           pairs_inside n j u (λ y z. hit j z y)
           (λ y z s a. no_hit z y (same_sym n j y z s) (cases (same n j u z) (λ k. never (same_trans n j u z y k (same_sym n j y z s)) a) (λ k. k)))
           ∙ around_swap n j u (λ y z. hit j z y)
 
-      total-up : total (suc j) u ≡ (2 * t n j + 1) * total j u
-      total-up =
-          pairs-up n j (hit (suc j)) (hit j) 0 hit_same hit-apart u
-          ∙ ap₂ (λ (a b : ℕ). (t n j + 1) * a + (t n j * b + t n (suc j) * (t n j * (t n j * 0)))) (pairs_inside n j u (hit j) no_hit) hit-back
+      total_up : total (suc j) u ≡ (2 * t n j + 1) * total j u
+      total_up =
+          pairs_up n j (hit (suc j)) (hit j) 0 hit_same hit_apart u
+          ∙ ap₂ (λ (a b : ℕ). (t n j + 1) * a + (t n j * b + t n (suc j) * (t n j * (t n j * 0)))) (pairs_inside n j u (hit j) no_hit) hit_back
           ∙ omega arith
 
     -- from the level of a link to any higher one
-    total-raised : (i d u : ℕ) → Inner n i u p → total (i + d) u ≡ total i u * product (ways n) i d
+    total_raised : (i d u : ℕ) → Inner n i u p → total (i + d) u ≡ total i u * product (ways n) i d
     unfolding product
-    total-raised i zero u inner = rw (add-zero i) (omega arith)
-    total-raised i (suc d) u inner =
+    total_raised i zero u inner = rw (add-zero i) (omega arith)
+    total_raised i (suc d) u inner =
         let up : Inner n (i + d) u p = λ a b q. let k = inner a b q in
         (same_mono n {i = i} {j = i + d} u a (omega arith) k.0, same_mono n {i = i} {j = i + d} a b (omega arith) k.1) in
-        rw (add-suc i d, ways_next n (i + d)) (total-up (i + d) u up ∙ ap (λ (m : ℕ). (2 * t n (i + d) + 1) * m) (total-raised i d u inner) ∙ omega arith)
+        rw (add-suc i d, ways_next n (i + d)) (total_up (i + d) u up ∙ ap (λ (m : ℕ). (2 * t n (i + d) + 1) * m) (total_raised i d u inner) ∙ omega arith)
 
-    over-total : (k u : ℕ) → u < t n k → 0 < n → over n k p ≡ total k u
+    over_total : (k u : ℕ) → u < t n k → 0 < n → over n k p ≡ total k u
     unfolding over
-    over-total k u h pos = pairs_hall n k u (λ x y. one (has p (hops (route n k x y)))) (hit k) h
+    over_total k u h pos = pairs_hall n k u (λ x y. one (has p (hops (route n k x y)))) (hit k) h
         (λ x y hx hy. ap (λ (r : List (ℕ × ℕ)). one (has p r)) (sym (links_hops n k x y (hall_same n pos k x y hx hy))))
 
     -- so what is counted in the hall is what is counted at the level of the link, times 2g - 1 for each level above it
-    pub over-raised : (k i d u : ℕ) → i + d ≡ k → u < t n k → 0 < n → Inner n i u p → over n k p ≡ total i u * product (ways n) i d
-    over-raised k i d u e h pos inner = over-total k u h pos ∙ ap (λ (m : ℕ). total m u) (sym e) ∙ total-raised i d u inner
+    pub over_raised : (k i d u : ℕ) → i + d ≡ k → u < t n k → 0 < n → Inner n i u p → over n k p ≡ total i u * product (ways n) i d
+    over_raised k i d u e h pos inner = over_total k u h pos ∙ ap (λ (m : ℕ). total m u) (sym e) ∙ total_raised i d u inner

@@ -11,7 +11,7 @@ use Rattle.combine.proofs.Tests.{cases, never, both_ways, both_left, both_right,
 use Rattle.sums.specs.Sums.{product, one}
 use Rattle.sums.proofs.Sums.{one_both}
 use Rattle.hall.specs.Cells.{t, same, sub, near, far, neighbour}
-use Rattle.hall.proofs.Cells.{crossing, same_refl, same_sym, same_trans, same_sub, near_left, sub_fits, end-sub, is-end, neighbour-end, neighbour-stays, neighbour-leaves, neighbour-neighbour, same_mono}
+use Rattle.hall.proofs.Cells.{crossing, same_refl, same_sym, same_trans, same_sub, near_left, sub_fits, end_sub, is_end, neighbour_end, neighbour_stays, neighbour_leaves, neighbour_neighbour, same_mono}
 use Rattle.hall.proofs.Links.{in_hall_lem}
 use Rattle.route.specs.Routes.{links}
 use Rattle.route.specs.Walks.{LinkOf}
@@ -19,9 +19,9 @@ use Rattle.route.proofs.Lists.{each_map}
 use Rattle.route.proofs.Routes.{Within, links_here, links_step, links_same, links_stay}
 use Rattle.load.specs.Counts.{has, is_link, to_switch, from_switch, carries, sends, takes}
 use Rattle.load.specs.Figures.{ways, load, cable}
-use Rattle.load.proofs.Around.{around, around_left, around-self, around-others, around-same}
+use Rattle.load.proofs.Around.{around, around_left, around_self, around_others, around_same}
 use Rattle.load.proofs.Pairs.{pairs_ext, pairs_grid}
-use Rattle.load.proofs.Links.{Inner, has_none, has-apart, total, over-raised}
+use Rattle.load.proofs.Links.{Inner, has_none, has_apart, total, over_raised}
 
 module _ (n : ℕ) where
   -- a total that is counted by first and last server apart
@@ -48,17 +48,17 @@ module _ (n : ℕ) where
   module _ (pos : 0 < n) where
     module _ (j u v : ℕ) (joined : neighbour n j u ≡ v) where
       stays : same n (suc j) u v ≡ true
-      stays = rw joined at (neighbour-stays n pos j u)
+      stays = rw joined at (neighbour_stays n pos j u)
 
       leaves : same n j u v ≡ false
-      leaves = rw joined at (neighbour-leaves n pos j u)
+      leaves = rw joined at (neighbour_leaves n pos j u)
 
       -- the link is that between the sub-cells of x and y, where it joins them
-      only-link : (x y : ℕ) → same n j u x ≡ true → same n j v y ≡ true → u ≡ near n j x y
+      only_link : (x y : ℕ) → same n j u x ≡ true → same n j v y ≡ true → u ≡ near n j x y
       unfolding near
-      only-link x y a b =
-          let e = is-end n pos j u in
-          let s : sub n j v ≡ e.0 = ap (sub n j) (sym joined ∙ neighbour-end n pos j u) ∙ end-sub n j u e.0 (sub n j u) e.1 (sub_fits n j u) (λ z. e.2 (sym z)) in
+      only_link x y a b =
+          let e = is_end n pos j u in
+          let s : sub n j v ≡ e.0 = ap (sub n j) (sym joined ∙ neighbour_end n pos j u) ∙ end_sub n j u e.0 (sub n j u) e.1 (sub_fits n j u) (λ z. e.2 (sym z)) in
           rw (near_left n j u x y a, ← same_sub n j v y b, s) e.3
 
       -- a route inside a sub-cell does not go over it
@@ -79,87 +79,87 @@ module _ (n : ℕ) where
           (λ b. b)))
           (λ a. rw a)))
           (λ k. let c = crossing n j x y s k in
-          has-apart (is_link u v) n j x y c
+          has_apart (is_link u v) n j x y c
           ∙ rw (none_inside x (near n j x y) c.here, none_inside (far n j x y) y c.there, either_false)
           (both_ways (is_link u v (near n j x y) (far n j x y)) (both (same n j u x) (same n j v y))
           (λ q. let e = eqb-true u (near n j x y) (both_left (eqb u (near n j x y)) (eqb v (far n j x y)) q) in
           let w = eqb-true v (far n j x y) (both_right (eqb u (near n j x y)) (eqb v (far n j x y)) q) in
           both_true (same n j u x) (same n j v y) (rw e (same_sym n j x (near n j x y) c.here)) (rw w c.there))
-          (λ q. let e = only-link x y (both_left (same n j u x) (same n j v y) q) (both_right (same n j u x) (same n j v y) q) in
+          (λ q. let e = only_link x y (both_left (same n j u x) (same n j v y) q) (both_right (same n j u x) (same n j v y) q) in
           both_true (eqb u (near n j x y)) (eqb v (far n j x y)) (eq-eqb u (near n j x y) e)
           (eq-eqb v (far n j x y) (sym joined ∙ ap (neighbour n j) e ∙ c.across)))))
 
       -- so all of the t servers there send to all of the t servers here
-      pub link-total : total (is_link u v) n (suc j) u ≡ t n j * t n j
-      link-total =
+      pub link_total : total (is_link u v) n (suc j) u ≡ t n j * t n j
+      link_total =
           total_grid (is_link u v) (suc j) u (same n j u) (same n j v) (λ x y s k. crosses x y (same_trans n (suc j) x u y (same_sym n (suc j) u x s) k))
-          ∙ ap₂ ◌*◌ (around-same n pos j u)
-          (sym (around_left n (suc j) u v (λ y. one (same n j v y)) stays) ∙ around-same n pos j v)
+          ∙ ap₂ ◌*◌ (around_same n pos j u)
+          (sym (around_left n (suc j) u v (λ y. one (same n j v y)) stays) ∙ around_same n pos j v)
 
     -- two servers of one switch: one route
-    pub switch-total : (u v : ℕ) → same n zero u v ≡ true → (u ≡ v → ⊥) → total (is_link u v) n zero u ≡ 1
-    switch-total u v s d =
+    pub switch_total : (u v : ℕ) → same n zero u v ≡ true → (u ≡ v → ⊥) → total (is_link u v) n zero u ≡ 1
+    switch_total u v s d =
         total_grid (is_link u v) zero u (eqb u) (eqb v) (λ x y _ _. has_switch (is_link u v) x y ∙ cases (eqb x y)
         (λ q. let e = eqb-true x y q in rw q (sym (cases (eqb u x)
         (λ a. rw a (cases (eqb v y) (λ b. absurd (d (eqb-true u x a ∙ e ∙ sym (eqb-true v y b)))) (λ b. b)))
         (λ a. rw a))))
         (λ q. rw q))
-        ∙ ap₂ ◌*◌ (around-self n pos zero u) (sym (around_left n zero u v (λ y. one (eqb v y)) s) ∙ around-self n pos zero v)
+        ∙ ap₂ ◌*◌ (around_self n pos zero u) (sym (around_left n zero u v (λ y. one (eqb v y)) s) ∙ around_self n pos zero v)
 
     -- one server of a switch: to each of the others, and from each of them
-    pub sends-total : (u : ℕ) → total (to_switch n u) n zero u ≡ n - 1
-    sends-total u =
+    pub sends_total : (u : ℕ) → total (to_switch n u) n zero u ≡ n - 1
+    sends_total u =
         total_grid (to_switch n u) zero u (eqb u) (λ y. not (eqb u y))
         (λ x y s k. has_switch (to_switch n u) x y
         ∙ rw (same_trans n zero x u y (same_sym n zero u x s) k) (cases (eqb u x)
         (λ q. let e = eqb-true u x q in rw (q, e) (cases (eqb x y) (λ r. rw r) (λ r. rw r)))
         (λ q. rw q (both_false (not (eqb x y)) false refl))))
-        ∙ ap₂ ◌*◌ (around-self n pos zero u) (around-others n pos u) ∙ omega arith
+        ∙ ap₂ ◌*◌ (around_self n pos zero u) (around_others n pos u) ∙ omega arith
 
-    pub takes-total : (u : ℕ) → total (from_switch n u) n zero u ≡ n - 1
-    takes-total u =
+    pub takes_total : (u : ℕ) → total (from_switch n u) n zero u ≡ n - 1
+    takes_total u =
         total_grid (from_switch n u) zero u (λ x. not (eqb u x)) (eqb u)
         (λ x y s k. has_switch (from_switch n u) x y
         ∙ rw (same_trans n zero x u y (same_sym n zero u x s) k) (cases (eqb u y)
         (λ q. let e = eqb-true u y q in rw (q, e) (cases (eqb x y) (λ r. rw (r, eq-eqb y x (sym (eqb-true x y r)))) (λ r. rw (r, ne_eqb y x (λ z. eqb-false x y r (sym z))))))
         (λ q. rw q (both_false (not (eqb x y)) false refl ∙ sym (both_false (not (eqb u x)) false refl)))))
-        ∙ ap₂ ◌*◌ (around-others n pos u) (around-self n pos zero u) ∙ omega arith
+        ∙ ap₂ ◌*◌ (around_others n pos u) (around_self n pos zero u) ∙ omega arith
 
     -- what a link of each level carries
-    pub link-carries : (k i u v : ℕ) → i ≤ k → u < t n k → LinkOf n i u v → carries n k u v ≡ load n k i
+    pub link_carries : (k i u v : ℕ) → i ≤ k → u < t n k → LinkOf n i u v → carries n k u v ≡ load n k i
     unfolding load
-    link-carries k zero u v l h (s, d) =
-        over-raised (is_link u v) n k zero k u (omega arith) h pos (link_inner zero u v s)
-        ∙ ap (λ (m : ℕ). m * product (ways n) 0 k) (switch-total u v s d)
+    link_carries k zero u v l h (s, d) =
+        over_raised (is_link u v) n k zero k u (omega arith) h pos (link_inner zero u v s)
+        ∙ ap (λ (m : ℕ). m * product (ways n) 0 k) (switch_total u v s d)
         ∙ omega arith
-    link-carries k (suc a) u v l h e =
-        over-raised (is_link u v) n k (suc a) (k - suc a) u (omega arith) h pos (link_inner (suc a) u v (stays a u v e))
-        ∙ ap (λ (m : ℕ). m * product (ways n) (suc a) (k - suc a)) (link-total a u v e)
+    link_carries k (suc a) u v l h e =
+        over_raised (is_link u v) n k (suc a) (k - suc a) u (omega arith) h pos (link_inner (suc a) u v (stays a u v e))
+        ∙ ap (λ (m : ℕ). m * product (ways n) (suc a) (k - suc a)) (link_total a u v e)
 
     -- a link has the same level from its other end
-    link-back : (i u v : ℕ) → LinkOf n i u v → LinkOf n i v u
-    link-back zero u v (s, d) = (same_sym n zero u v s, λ e. d (sym e))
-    link-back (suc a) u v e = ap (neighbour n a) (sym e) ∙ neighbour-neighbour n pos a u
+    link_back : (i u v : ℕ) → LinkOf n i u v → LinkOf n i v u
+    link_back zero u v (s, d) = (same_sym n zero u v s, λ e. d (sym e))
+    link_back (suc a) u v e = ap (neighbour n a) (sym e) ∙ neighbour_neighbour n pos a u
 
-    link-in : (k i u v : ℕ) → i ≤ k → u < t n k → LinkOf n i u v → v < t n k
-    link-in k zero u v l h (s, d) = in_hall_lem n pos k u v h (same_mono n {i = 0} {j = k} u v l s)
-    link-in k (suc a) u v l h e = in_hall_lem n pos k u v h (same_mono n {i = suc a} {j = k} u v l (stays a u v e))
+    link_in : (k i u v : ℕ) → i ≤ k → u < t n k → LinkOf n i u v → v < t n k
+    link_in k zero u v l h (s, d) = in_hall_lem n pos k u v h (same_mono n {i = 0} {j = k} u v l s)
+    link_in k (suc a) u v l h e = in_hall_lem n pos k u v h (same_mono n {i = suc a} {j = k} u v l (stays a u v e))
 
     pub each_way : (k i u v : ℕ) → i ≤ k → u < t n k → LinkOf n i u v → (carries n k u v ≡ load n k i) × (carries n k v u ≡ load n k i)
-    each_way k i u v l h e = (link-carries k i u v l h e, link-carries k i v u l (link-in k i u v l h e) (link-back i u v e))
+    each_way k i u v l h e = (link_carries k i u v l h e, link_carries k i v u l (link_in k i u v l h e) (link_back i u v e))
 
     -- what the cable of each server carries
-    pub cable-carries : (k u : ℕ) → u < t n k → (sends n k u ≡ cable n k) × (takes n k u ≡ cable n k)
+    pub cable_carries : (k u : ℕ) → u < t n k → (sends n k u ≡ cable n k) × (takes n k u ≡ cable n k)
     unfolding cable load
-    cable-carries k u h = (
-      over-raised (to_switch n u) n k zero k u (omega arith) h pos (λ a b q. (
+    cable_carries k u h = (
+      over_raised (to_switch n u) n k zero k u (omega arith) h pos (λ a b q. (
         rw (← eqb-true u a (both_left (eqb u a) (same n 0 a b) q)) (same_refl n 0 u),
         both_right (eqb u a) (same n 0 a b) q,
       ))
-          ∙ ap (λ (m : ℕ). m * product (ways n) 0 k) (sends-total u),
-      over-raised (from_switch n u) n k zero k u (omega arith) h pos (λ a b q.
+          ∙ ap (λ (m : ℕ). m * product (ways n) 0 k) (sends_total u),
+      over_raised (from_switch n u) n k zero k u (omega arith) h pos (λ a b q.
           let e = eqb-true u b (both_left (eqb u b) (same n 0 a b) q) in
           let s = both_right (eqb u b) (same n 0 a b) q in
           (rw e (same_sym n 0 a b s), s))
-          ∙ ap (λ (m : ℕ). m * product (ways n) 0 k) (takes-total u),
+          ∙ ap (λ (m : ℕ). m * product (ways n) 0 k) (takes_total u),
     )

@@ -8,7 +8,7 @@ use lib.Dec.{eqb}
 use borrow.Author.Tests.{eqb-true, eqb-false}
 use Rattle.combine.proofs.Tests.{cases, never, both_right, either_cases, either_true}
 use Rattle.hall.specs.Cells.{t, same, neighbour, lowest}
-use Rattle.hall.proofs.Cells.{neighbour-stays, neighbour-leaves}
+use Rattle.hall.proofs.Cells.{neighbour_stays, neighbour_leaves}
 use Rattle.hall.proofs.Links.{hall_same}
 use Rattle.route.specs.Routes.{route, hops, level_of, of_level}
 use Rattle.route.specs.Walks.{LinkOf, Each}
@@ -61,7 +61,7 @@ module _ (n : ℕ) (pos : 0 < n) where
   starts_port k a x y l hx hy = (
     (λ h. let w = first_link_lem (of_level n (suc a)) k x y (hall_same n pos k x y hx hy) h in
         (w.1, rw (level_port k a x w.0 l w.4 w.3) w.2)),
-    (λ e. unfold starts of_level in (rw (e.1, neighbour-leaves n pos a x, neighbour-stays n pos a x))),
+    (λ e. unfold starts of_level in (rw (e.1, neighbour_leaves n pos a x, neighbour_stays n pos a x))),
   )
 
   -- and at level 0 where it is one to another server on the switch of x

@@ -10,7 +10,7 @@ use Rattle.sums.specs.Sums.{sum}
 use Rattle.sums.proofs.Sums.{sum_ext}
 use Rattle.hall.specs.Cells.{t, same, sub, near, far}
 use Rattle.hall.proofs.Cells.{Crossing, crossing, same_eq, same_sym, same_trans, end_cells}
-use Rattle.load.proofs.Around.{around, around_hall, around_ext, around_const, around_left, around_times, around_add, around_swap, around-split, around_inside, around-cells}
+use Rattle.load.proofs.Around.{around, around_hall, around_ext, around_const, around_left, around_times, around_add, around_swap, around_split, around_inside, around_cells}
 
 -- the sum of f over all ordered pairs of the DCell of level l around u
 abbrev pub pairs : ℕ → ℕ → ℕ → (ℕ → ℕ → ℕ) → ℕ
@@ -40,7 +40,7 @@ pairs_inside n j u f h =
     ∙ around_ext n j u (λ x. around n j x (f x)) (λ x. around n j u (f x)) (λ x s. around_left n j u x (f x) s)
 
 pub pairs_cells : (n j u c : ℕ) (f : ℕ → ℕ → ℕ) → 0 < n → ((x : ℕ) → pairs n j x f ≡ c) → around n (suc j) u (λ x. around n j x (f x)) ≡ (t n j + 1) * c
-pairs_cells n j u c f pos h = around-cells n pos j u c (λ x. around n j x (f x))
+pairs_cells n j u c f pos h = around_cells n pos j u c (λ x. around n j x (f x))
     (λ x. around_ext n j x (λ z. around n j z (f z)) (λ z. around n j x (f z)) (λ z s. around_left n j x z (f z) s) ∙ h x)
 
 -- over all ordered pairs of servers: the hall is one DCell
@@ -81,53 +81,53 @@ module _ (n j : ℕ) where
         (λ k. rw k (between x y (crossing n j x y s k) ∙ omega arith))
 
     -- from one x to all, and from all to one y
-    leaving-all : (x : ℕ) → around n (suc j) x (leaving x) ≡ (t n j + 1) * around n j x (h x)
+    leaving_all : (x : ℕ) → around n (suc j) x (leaving x) ≡ (t n j + 1) * around n j x (h x)
     unfolding leaving
-    leaving-all x =
-        around-split n j x (leaving x) (h x) (λ y _ a. rw a)
+    leaving_all x =
+        around_split n j x (leaving x) (h x) (λ y _ a. rw a)
         ∙ ap (λ (m : ℕ). m + t n j * around n j x (h x)) (around_ext n j x (leaving x) (h x) (λ y s. rw s))
         ∙ omega arith
 
-    arriving-all : (y : ℕ) → around n (suc j) y (λ x. arriving x y) ≡ t n j * around n j y (λ z. h z y)
+    arriving_all : (y : ℕ) → around n (suc j) y (λ x. arriving x y) ≡ t n j * around n j y (λ z. h z y)
     unfolding arriving
-    arriving-all y =
-        around-split n j y (λ x. arriving x y) (λ z. h z y) (λ x s a. rw (apart_sym x y a, far_near x y s))
+    arriving_all y =
+        around_split n j y (λ x. arriving x y) (λ z. h z y) (λ x s a. rw (apart_sym x y a, far_near x y s))
         ∙ ap (λ (m : ℕ). m + t n j * around n j y (λ z. h z y))
         (around_ext n j y (λ x. arriving x y) (λ _. 0) (λ x s. rw (same_sym n j y x s)) ∙ around_const n j y 0)
         ∙ omega arith
 
-    linking-all : (x : ℕ) → around n (suc j) x (linking x) ≡ t n j * (t n j * c)
+    linking_all : (x : ℕ) → around n (suc j) x (linking x) ≡ t n j * (t n j * c)
     unfolding linking
-    linking-all x =
-        around-split n j x (linking x) (λ _. c) (λ y _ a. rw a)
+    linking_all x =
+        around_split n j x (linking x) (λ _. c) (λ y _ a. rw a)
         ∙ ap₂ (λ (m k : ℕ). m + t n j * k) (around_ext n j x (linking x) (λ _. 0) (λ y s. rw s) ∙ around_const n j x 0) (around_const n j x c)
         ∙ omega arith
 
     -- over all pairs
     module _ (u : ℕ) where
-      pairs-leaving : pairs n (suc j) u leaving ≡ (t n j + 1) * around n (suc j) u (λ x. around n j x (h x))
-      pairs-leaving =
+      pairs_leaving : pairs n (suc j) u leaving ≡ (t n j + 1) * around n (suc j) u (λ x. around n j x (h x))
+      pairs_leaving =
           around_ext n (suc j) u (λ x. around n (suc j) u (leaving x)) (λ x. (t n j + 1) * around n j x (h x))
-          (λ x s. sym (around_left n (suc j) u x (leaving x) s) ∙ leaving-all x)
+          (λ x s. sym (around_left n (suc j) u x (leaving x) s) ∙ leaving_all x)
           ∙ around_times n (suc j) u (t n j + 1) (λ x. around n j x (h x))
 
-      pairs-arriving : pairs n (suc j) u arriving ≡ t n j * around n (suc j) u (λ y. around n j y (λ z. h z y))
-      pairs-arriving =
+      pairs_arriving : pairs n (suc j) u arriving ≡ t n j * around n (suc j) u (λ y. around n j y (λ z. h z y))
+      pairs_arriving =
           around_swap n (suc j) u arriving
           ∙ around_ext n (suc j) u (λ y. around n (suc j) u (λ x. arriving x y)) (λ y. t n j * around n j y (λ z. h z y))
-          (λ y s. sym (around_left n (suc j) u y (λ x. arriving x y) s) ∙ arriving-all y)
+          (λ y s. sym (around_left n (suc j) u y (λ x. arriving x y) s) ∙ arriving_all y)
           ∙ around_times n (suc j) u (t n j) (λ y. around n j y (λ z. h z y))
 
-      pairs-linking : pairs n (suc j) u linking ≡ t n (suc j) * (t n j * (t n j * c))
-      pairs-linking =
+      pairs_linking : pairs n (suc j) u linking ≡ t n (suc j) * (t n j * (t n j * c))
+      pairs_linking =
           around_ext n (suc j) u (λ x. around n (suc j) u (linking x)) (λ _. t n j * (t n j * c))
-          (λ x s. sym (around_left n (suc j) u x (linking x) s) ∙ linking-all x)
+          (λ x s. sym (around_left n (suc j) u x (linking x) s) ∙ linking_all x)
           ∙ around_const n (suc j) u (t n j * (t n j * c))
 
-      pub pairs-up : pairs n (suc j) u f ≡ (t n j + 1) * around n (suc j) u (λ x. around n j x (h x))
+      pub pairs_up : pairs n (suc j) u f ≡ (t n j + 1) * around n (suc j) u (λ x. around n j x (h x))
           + (t n j * around n (suc j) u (λ y. around n j y (λ z. h z y)) + t n (suc j) * (t n j * (t n j * c)))
-      pairs-up =
+      pairs_up =
           pairs_ext n (suc j) u f (λ x y. leaving x y + (arriving x y + linking x y))
           (λ x y s k. parts x y (same_trans n (suc j) x u y (same_sym n (suc j) u x s) k))
           ∙ pairs_add n (suc j) u leaving (λ x y. arriving x y + linking x y)
-          ∙ ap₂ ◌+◌ pairs-leaving (pairs_add n (suc j) u arriving linking ∙ ap₂ ◌+◌ pairs-arriving pairs-linking)
+          ∙ ap₂ ◌+◌ pairs_leaving (pairs_add n (suc j) u arriving linking ∙ ap₂ ◌+◌ pairs_arriving pairs_linking)

@@ -22,7 +22,7 @@ use Rattle.route.proofs.Counts.{not_above, not_below, level_of_link}
 use Rattle.route.proofs.Recursion.{route_self}
 use Rattle.load.specs.Counts.{starts, begins}
 use Rattle.load.specs.Figures.{share}
-use Rattle.load.proofs.Around.{around, around_hall, around_ext, around_const, around-split, around-self, around-others}
+use Rattle.load.proofs.Around.{around, around_hall, around_ext, around_const, around_split, around_self, around_others}
 
 -- the first of two lists of links, one behind the other
 starts_append : (p : ℕ → ℕ → Bool) (e r : List (ℕ × ℕ)) (m : ℕ × ℕ) → p m.0 m.1 ≡ false → starts p (e ++ (m ∷ r)) ≡ starts p e
@@ -81,7 +81,7 @@ module _ (n : ℕ) where
 
   firsts_up : (i j x : ℕ) → i ≤ j → firsts i (suc j) x ≡ firsts i j x * (t n j + 1)
   firsts_up i j x h =
-      around-split n j x (λ y. one (first i (suc j) x y)) (λ y. one (first i j x y)) (λ y u a. ap one (first_apart i j x y h (crossing n j x y u a)))
+      around_split n j x (λ y. one (first i (suc j) x y)) (λ y. one (first i j x y)) (λ y u a. ap one (first_apart i j x y h (crossing n j x y u a)))
       ∙ ap (λ (m : ℕ). m + t n j * firsts i j x) (around_ext n j x (λ y. one (first i (suc j) x y)) (λ y. one (first i j x y))
       (λ y s. ap (λ (r : List (ℕ × ℕ)). one (starts (of_level n i) r)) (links_same n j x y s)))
       ∙ omega arith
@@ -95,20 +95,20 @@ module _ (n : ℕ) where
 
   module _ (pos : 0 < n) where
     -- at its own level: the servers of the one sub-cell behind the port, and on the switch all but x
-    firsts-top : (j x : ℕ) → firsts (suc j) (suc j) x ≡ t n j
-    firsts-top j x =
-        around-split n j x (λ y. one (first (suc j) (suc j) x y)) (λ y. one (eqb x y)) (λ y u a. ap one (first_top j x y (crossing n j x y u a)))
+    firsts_top : (j x : ℕ) → firsts (suc j) (suc j) x ≡ t n j
+    firsts_top j x =
+        around_split n j x (λ y. one (first (suc j) (suc j) x y)) (λ y. one (eqb x y)) (λ y u a. ap one (first_top j x y (crossing n j x y u a)))
         ∙ ap₂ ◌+◌ (around_ext n j x (λ y. one (first (suc j) (suc j) x y)) (λ _. 0) (λ y s. unfold one in (rw (first_low j x y s))) ∙ around_const n j x 0)
-        (ap (λ (m : ℕ). t n j * m) (around-self n pos j x))
+        (ap (λ (m : ℕ). t n j * m) (around_self n pos j x))
         ∙ omega arith
 
-    firsts-zero : (x : ℕ) → firsts zero zero x ≡ n - 1
-    firsts-zero x = around_ext n zero x (λ y. one (first zero zero x y)) (λ y. one (not (eqb x y))) (λ y s. ap one (first_zero x y s)) ∙ around-others n pos x
+    firsts_zero : (x : ℕ) → firsts zero zero x ≡ n - 1
+    firsts_zero x = around_ext n zero x (λ y. one (first zero zero x y)) (λ y. one (not (eqb x y))) (λ y s. ap one (first_zero x y s)) ∙ around_others n pos x
 
     -- the same of the hall, with routes as they are written
-    begins-firsts : (k i d x : ℕ) → i + d ≡ k → x < t n k → begins n k x i ≡ firsts i i x * product (g n) i d
+    begins_firsts : (k i d x : ℕ) → i + d ≡ k → x < t n k → begins n k x i ≡ firsts i i x * product (g n) i d
     unfolding begins
-    begins-firsts k i d x e h =
+    begins_firsts k i d x e h =
         sum_ext (λ y. one (starts (of_level n i) (hops (route n k x y)))) (λ y. one (first i k x y)) (t n k)
         (λ y hy. ap (λ (r : List (ℕ × ℕ)). one (starts (of_level n i) r)) (sym (links_hops n k x y (hall_same n pos k x y h hy))))
         ∙ sym (around_hall n k x (λ y. one (first i k x y)) h)
@@ -116,8 +116,8 @@ module _ (n : ℕ) where
         ∙ firsts_raised i d x
 
     -- what each port of a server begins
-    pub port-begins : (k i x : ℕ) → i ≤ k → x < t n k → begins n k x i ≡ share n k i
+    pub port_begins : (k i x : ℕ) → i ≤ k → x < t n k → begins n k x i ≡ share n k i
     unfolding share
-    port-begins k zero x l h = begins-firsts k zero k x (omega arith) h ∙ ap (λ (m : ℕ). m * product (g n) 0 k) (firsts-zero x)
-    port-begins k (suc a) x l h =
-        begins-firsts k (suc a) (k - suc a) x (omega arith) h ∙ ap (λ (m : ℕ). m * product (g n) (suc a) (k - suc a)) (firsts-top a x)
+    port_begins k zero x l h = begins_firsts k zero k x (omega arith) h ∙ ap (λ (m : ℕ). m * product (g n) 0 k) (firsts_zero x)
+    port_begins k (suc a) x l h =
+        begins_firsts k (suc a) (k - suc a) x (omega arith) h ∙ ap (λ (m : ℕ). m * product (g n) (suc a) (k - suc a)) (firsts_top a x)

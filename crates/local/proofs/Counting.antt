@@ -68,11 +68,11 @@ module _ (h : Hall) (u : ℕ) (v : valid h ≡ true) (table : List ℕ) where
   full_codes r e c = rw (fitted_full h u (full_is h r v e c))
 
   module _ (l : u < servers h) (b : Bool) (e : b ≡ is_fitted h u) where
-    pub own-codes : b ≡ true → table ≡ pick (fitted h u) table []
-    own-codes q = rw (← told_fitted h u v l, ← e, q)
+    pub own_codes : b ≡ true → table ≡ pick (fitted h u) table []
+    own_codes q = rw (← told_fitted h u v l, ← e, q)
 
-    pub no-codes : b ≡ false → [] ≡ pick (fitted h u) table []
-    no-codes q = rw (← told_fitted h u v l, ← e, q)
+    pub no_codes : b ≡ false → [] ≡ pick (fitted h u) table []
+    no_codes q = rw (← told_fitted h u v l, ← e, q)
 
 -- the codes that the code looks at give the distances and the next hop
 module _ (h : Hall) (table : List ℕ) (u : ℕ) (v : valid h ≡ true) (codes : List ℕ) (c : codes ≡ pick (fitted h u) table []) where

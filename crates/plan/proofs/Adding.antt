@@ -14,7 +14,7 @@ use Rattle.combine.proofs.Tests.{cases}
 use Rattle.hall.proofs.Growth.{t_up}
 use Rattle.hall.specs.Halls.{racks}
 use Rattle.plan.specs.Plan.{index, inside, before, place, IsPrefix, rank}
-use Rattle.plan.specs.Adding.{Fitted, total, all_of, firstNot, put, passes, size, full, get_index, add, after, has}
+use Rattle.plan.specs.Adding.{Fitted, total, all_of, first_not, put, passes, size, full, get_index, add, after, has}
 use Rattle.plan.proofs.Index.{before_high, phases, low, high}
 use Rattle.hall.proofs.Racks.{racks_pos}
 use Rattle.plan.proofs.Place.{place_fits, place_rank, rank_place}
@@ -39,11 +39,11 @@ module _ {A : Type 0} where
     all_map p q h [] = refl
     all_map p q h (k ∷ ks) = ap₂ ◌&&◌ (h k) (all_map p q h ks)
 
-    first-map : (p : A → Bool) (q : ℕ → Bool) → ((k : ℕ) → p (f k) ≡ q k) → (ks : List ℕ) → firstNot p (map f ks) ≡ firstNot q ks
-    unfolding firstNot
-    first-map p q h [] = refl
-    first-map p q h (k ∷ ks) = let ih = first-map p q h ks in
-        cases (q k) (λ e. rw (h k, e, firstNot) (ap suc ih)) (λ e. rw (h k, e, firstNot))
+    first_map : (p : A → Bool) (q : ℕ → Bool) → ((k : ℕ) → p (f k) ≡ q k) → (ks : List ℕ) → first_not p (map f ks) ≡ first_not q ks
+    unfolding first_not
+    first_map p q h [] = refl
+    first_map p q h (k ∷ ks) = let ih = first_map p q h ks in
+        cases (q k) (λ e. rw (h k, e, first_not) (ap suc ih)) (λ e. rw (h k, e, first_not))
 
     get_d_map : (ks : List ℕ) (i : ℕ) → get_or (map f ks) i (f 0) ≡ f (get_or ks i 0)
     get_d_map [] i = refl
@@ -56,11 +56,11 @@ module _ {A : Type 0} where
     put_map (k ∷ ks) zero = refl
     put_map (k ∷ ks) (suc i) = ap (λ (r : List A). f k ∷ r) (put_map ks i)
 
-    passes-map : (p : A → Bool) (x : ℕ) → ((k : ℕ) → p (f k) ≡ ltb x k) → (ks : List ℕ) (i : ℕ) → passes p (map f ks) i ≡ ltb x (get_or ks i 0)
+    passes_map : (p : A → Bool) (x : ℕ) → ((k : ℕ) → p (f k) ≡ ltb x k) → (ks : List ℕ) (i : ℕ) → passes p (map f ks) i ≡ ltb x (get_or ks i 0)
     unfolding passes
-    passes-map p x h [] i = sym (le-ltb x 0 (omega arith))
-    passes-map p x h (k ∷ ks) zero = h k
-    passes-map p x h (k ∷ ks) (suc i) = passes-map p x h ks i
+    passes_map p x h [] i = sym (le-ltb x 0 (omega arith))
+    passes_map p x h (k ∷ ks) zero = h k
+    passes_map p x h (k ∷ ks) (suc i) = passes_map p x h ks i
 
 module _ (n : ℕ) where
   -- one addition adds one
@@ -75,7 +75,7 @@ module _ (n : ℕ) where
   size_after m (suc c) = size_add m (after n m c) ∙ ap suc (size_after m c)
 
   -- each sub-cell is what its own count of additions makes it
-  index_choose : (m : ℕ) (s : List (Fitted m)) → get_index n m s ≡ choose (t n 1 + 1) (length s) (all_of (full n m) s) (firstNot (full n m) s)
+  index_choose : (m : ℕ) (s : List (Fitted m)) → get_index n m s ≡ choose (t n 1 + 1) (length s) (all_of (full n m) s) (first_not (full n m) s)
   unfolding get_index choose
   index_choose m s = refl
 
@@ -86,7 +86,7 @@ module _ (n : ℕ) where
         index_choose (suc m) (map (after n m) ks),
         length-map ks (after n m),
         all_map (after n m) (full n (suc m)) (λ k. eqb k (racks n (suc m))) p ks,
-        first-map (after n m) (full n (suc m)) (λ k. eqb k (racks n (suc m))) p ks,
+        first_map (after n m) (full n (suc m)) (λ k. eqb k (racks n (suc m))) p ks,
       ) (sym (choice_choose (t n 1 + 1) (racks n (suc m)) ks))
 
   after_suc : (m c : ℕ) → after n m (suc c) ≡ (add n m (after n m c)).1
@@ -147,7 +147,7 @@ module _ (n : ℕ) where
   has_rank zero c (q ∷ []) v = unfold has rank racks in (passes_two (after n zero c) q ∙ ap₂ ltb (sym (before_two (t n 1 + 1) q)) (after_two c))
   has_rank zero c (q ∷ (b ∷ r)) v = absurd v.1
   has_rank (suc m) c (q ∷ r) v =
-      let h = passes-map (after n m) (λ a. has (suc m) a r) (rank n (suc m) r) (λ k. has_rank m k r v.1) (run (t n 1 + 1) (racks n (suc m)) c) q in
+      let h = passes_map (after n m) (λ a. has (suc m) a r) (rank n (suc m) r) (λ k. has_rank m k r v.1) (run (t n 1 + 1) (racks n (suc m)) c) q in
       let k = counted (t n 1 + 1) (racks n (suc m)) (racks_pos n (suc m)) c q (rank n (suc m) r) (place_rank n (suc m) r v.1).0 in
       rw (after_run m c) (h ∙ k)
 
@@ -209,7 +209,7 @@ module _ (n : ℕ) where
       let ks = run G C c in
       let e' : passes (λ a. has (suc m) a r) (map (after n m) ks) q ≡ true = rw (after_run m c) at e in
       let v = only_prefixes m (get_or ks q 0) r (bounded G C (racks_pos n (suc m)) c q) (passes_one (after n m) (λ a. has (suc m) a r) ks q e') in
-      let h = passes-map (after n m) (λ a. has (suc m) a r) (rank n (suc m) r) (λ k. has_rank m k r v) ks q in
+      let h = passes_map (after n m) (λ a. has (suc m) a r) (rank n (suc m) r) (λ k. has_rank m k r v) ks q in
       let k = counted G C (racks_pos n (suc m)) c q (rank n (suc m) r) (place_rank n (suc m) r v).0 in
       let b = ltb-true (before G C q (rank n (suc m) r)) c (sym k ∙ sym h ∙ e') in
       (below m q (rank n (suc m) r) c l b, v)

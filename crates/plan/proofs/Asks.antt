@@ -58,8 +58,8 @@ module _ (h : Hall) where
     pub refused_full : h.count ≡ r → 12 ≡ refusal (asks_plan h)
     refused_full m = rw (refused_is, v, le-leb 2 h.k l, full_is r v e m)
 
-    pub refused-not : (h.count ≡ r → ⊥) → 0 ≡ refusal (asks_plan h)
-    refused-not m = rw (refused_is, v, le-leb 2 h.k l, sym (full_told r v e) ∙ ne_eqb h.count r m)
+    pub refused_not : (h.count ≡ r → ⊥) → 0 ≡ refusal (asks_plan h)
+    refused_not m = rw (refused_is, v, le-leb 2 h.k l, sym (full_told r v e) ∙ ne_eqb h.count r m)
 
   -- what is known where the planner is not refused
   pub record Room : Type 0 where
@@ -88,32 +88,32 @@ module _ (h : Hall) where
 
   -- whether a server is fitted, by the code's cases
   module _ (u r : ℕ) (e : r ≡ pick (valid h) (servers h) 0) where
-    pub none-fitted : r ≤ u → false ≡ is_fitted h u
-    none-fitted l = cases (valid h)
+    pub none_fitted : r ≤ u → false ≡ is_fitted h u
+    none_fitted l = cases (valid h)
         (λ v. let q : r ≡ servers h = e ∙ rw v in rw (v, le-ltb u (servers h) (omega arith)))
         (λ v. rw v)
 
     module _ (l : u < r) where
-      pub server-valid : valid h ≡ true
-      server-valid = cases (valid h) (λ v. v) (λ v. let q : r ≡ 0 = e ∙ rw v in absurd (omega arith))
+      pub server_valid : valid h ≡ true
+      server_valid = cases (valid h) (λ v. v) (λ v. let q : r ≡ 0 = e ∙ rw v in absurd (omega arith))
 
-      server-fitted : is_fitted h u ≡ fitted h u
-      server-fitted =
-          let q : r ≡ servers h = e ∙ rw server-valid in
-          rw (server-valid, lt-ltb u (servers h) (omega arith))
+      server_fitted : is_fitted h u ≡ fitted h u
+      server_fitted =
+          let q : r ≡ servers h = e ∙ rw server_valid in
+          rw (server_valid, lt-ltb u (servers h) (omega arith))
 
       -- with k below 2 every server is
-      pub fitted-low : h.k < 2 → true ≡ is_fitted h u
+      pub fitted_low : h.k < 2 → true ≡ is_fitted h u
       unfolding fitted rank count_fits
-      fitted-low q =
+      fitted_low q =
           let z : h.k - 1 ≡ 0 = omega arith in
-          let w : eqb h.count 1 ≡ true = rw (lt-leb 2 h.k q) at (valid_known h server-valid).count_fits in
+          let w : eqb h.count 1 ≡ true = rw (lt-leb 2 h.k q) at (valid_known h server_valid).count_fits in
           let o = eqb-true h.count 1 w in
-          rw (server-fitted, z, o)
+          rw (server_fitted, z, o)
 
-      pub fitted-rank : (c : ℕ) → c ≡ rank h.n (h.k - 1) (prefix_of h.n (h.k - 1) u) → ltb c h.count ≡ is_fitted h u
+      pub fitted_rank : (c : ℕ) → c ≡ rank h.n (h.k - 1) (prefix_of h.n (h.k - 1) u) → ltb c h.count ≡ is_fitted h u
       unfolding fitted
-      fitted-rank c q = rw (server-fitted, q)
+      fitted_rank c q = rw (server_fitted, q)
 
   -- a hall that there is has a DCell0 of some servers
   pub some_hall : (r : ℕ) → r ≡ size_of h 0 → (r ≡ 0 → ⊥) → valid h ≡ true
@@ -128,8 +128,8 @@ module _ (h : Hall) where
 
   -- where the fitted servers are the first, their number decides
   module _ (v : valid h ≡ true) where
-    pub count-servers : h.count * t h.n 1 ≤ largest
-    count-servers = let k = valid_known h v in racks_servers h.n h.k h.count (omega (arith, k.n_low)) k.sized k.count_fits
+    pub count_servers : h.count * t h.n 1 ≤ largest
+    count_servers = let k = valid_known h v in racks_servers h.n h.k h.count (omega (arith, k.n_low)) k.sized k.count_fits
 
     pub first_decides : (b : Bool) → b ≡ first_fitted h.n h.k h.count → b ≡ true → (u most : ℕ) → most ≡ h.count * t h.n 1 → ltb u most ≡ is_fitted h u
     first_decides b f z u most m =

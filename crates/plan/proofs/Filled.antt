@@ -66,13 +66,13 @@ module _ (n : ℕ) where
       let w = length-up_to (prefix_at n (m + 1) c) places in
       let y : m + 1 - 1 ≡ m = omega arith in
       ext_get_or 0 (filled n m c z) (up_to (prefix_at n (m + 1) c) places) (omega arith)
-      (λ i b. getD-is i (omega arith) ∙ sym (get_or-up_to (prefix_at n (m + 1) c) places i 0 (omega arith)))
+      (λ i b. get_or_is i (omega arith) ∙ sym (get_or-up_to (prefix_at n (m + 1) c) places i 0 (omega arith)))
     where
       outside : (i : ℕ) → i < places → (2 ≤ i → m + 1 < i) → get_or (filled n m c (replicate places 0)) i 0 ≡ 0
       outside i b o = filled_other m c i (replicate places 0) o ∙ get_or-replicate {A = ℕ} places i 0 0 b
 
-      getD-is : (i : ℕ) → i < places → get_or (filled n m c (replicate places 0)) i 0 ≡ prefix_at n (m + 1) c i
-      getD-is i b = cases (leb 2 i)
+      get_or_is : (i : ℕ) → i < places → get_or (filled n m c (replicate places 0)) i 0 ≡ prefix_at n (m + 1) c i
+      get_or_is i b = cases (leb 2 i)
           (λ p. cases (leb i (m + 1))
           (λ q.
           let y : m + 1 - 1 ≡ m = omega arith in

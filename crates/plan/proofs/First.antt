@@ -14,10 +14,10 @@ use Rattle.hall.specs.declared.Hall.{Hall}
 use Rattle.hall.specs.Cells.{t, cell, sub}
 use Rattle.hall.specs.Halls.{servers, racks, capacity, count_fits}
 use Rattle.hall.proofs.Racks.{racks_size, count_most}
-use Rattle.hall.proofs.Cells.{t-pos, cell_up, cell_sub, sub_fits}
+use Rattle.hall.proofs.Cells.{t_pos, cell_up, cell_sub, sub_fits}
 use Rattle.plan.specs.Plan.{before, rank, prefix_of}
 use Rattle.plan.specs.Answers.{fitted, first_fitted}
-use Rattle.plan.proofs.Index.{before_high, index-before}
+use Rattle.plan.proofs.Index.{before_high, index_before}
 use Rattle.plan.proofs.Adding.{before_two}
 
 -- a DCell1 is below a count where its servers are below as many of t(1)
@@ -59,12 +59,12 @@ module _ (n : ℕ) (pos : 0 < n) where
 
     early : sub n 2 u < G → ltb (before G G (sub n 2 u) (sub n 1 u)) c ≡ ltb (sub n 2 u * G + sub n 1 u) c
     early q =
-        let w = (index-before G G (omega arith) G (omega arith) (sub n 2 u) (sub n 1 u) q inside).0 in
+        let w = (index_before G G (omega arith) G (omega arith) (sub n 2 u) (sub n 1 u) q inside).0 in
         let z : sub n 2 u * G + sub n 1 u < G * G = digits_lt q inside in
         lt-ltb (before G G (sub n 2 u) (sub n 1 u)) c (omega arith) ∙ sym (lt-ltb (sub n 2 u * G + sub n 1 u) c (omega arith))
 
-    pub rank-number : ltb (rank n 2 (prefix_of n 2 u)) c ≡ ltb (u / t n 1) c
-    rank-number =
+    pub rank_number : ltb (rank n 2 (prefix_of n 2 u)) c ≡ ltb (u / t n 1) c
+    rank_number =
         rw (rank_three u, number_three u l)
         (cases (ltb (sub n 2 u) G)
         (λ q. early (ltb-true (sub n 2 u) G q))
@@ -80,13 +80,13 @@ first_fitted_lem h pos e u l =
     let k = eqb-true h.k 2 q in
     let m : h.k - 1 ≡ 1 = omega arith in
     let w : u < t n 2 = rw k at l in
-    rw m (ap (λ (r : ℕ). ltb r h.count) (rank_two n pos u ∙ sub_two n pos u w) ∙ below_times T u h.count (t-pos n pos 1)))
+    rw m (ap (λ (r : ℕ). ltb r h.count) (rank_two n pos u ∙ sub_two n pos u w) ∙ below_times T u h.count (t_pos n pos 1)))
     (λ q.
     let k = eqb-true h.k 3 (both_left (eqb h.k 3) (leb ((T + 1) * (T + 1)) h.count) q) in
     let f = leb-true ((T + 1) * (T + 1)) h.count (both_right (eqb h.k 3) (leb ((T + 1) * (T + 1)) h.count) q) in
     let m : h.k - 1 ≡ 2 = omega arith in
     let w : u < t n 3 = rw k at l in
-    rw m (rank-number n pos u h.count w f ∙ below_times T u h.count (t-pos n pos 1)))
+    rw m (rank_number n pos u h.count w f ∙ below_times T u h.count (t_pos n pos 1)))
 
 -- they are of the hall
 pub first_servers : (h : Hall) → 0 < h.n → count_fits h.n h.k h.count ≡ true → first_fitted h.n h.k h.count ≡ true → h.count * t h.n 1 ≤ servers h

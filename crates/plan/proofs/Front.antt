@@ -15,14 +15,14 @@ use Rattle.hall.specs.Cells.{t, cell, same, sub}
 use Rattle.hall.specs.Halls.{most_n, largest, valid, servers}
 use Rattle.hall.proofs.Growth.{Valid, valid_known, uid_fits, t_fits}
 use Rattle.hall.proofs.Links.{in_hall_lem}
-use Rattle.hall.proofs.Place.{place_cell, place_up, place-sub}
-use Rattle.hall.proofs.Cells.{t-pos, eq_same, same_mono, same_sub}
+use Rattle.hall.proofs.Place.{place_cell, place_up, place_sub}
+use Rattle.hall.proofs.Cells.{t_pos, eq_same, same_mono, same_sub}
 use Rattle.hall.specs.Halls.{racks}
 use Rattle.plan.specs.Plan.{before, rank, prefix_of}
 use Rattle.plan.specs.Answers.{fitted, is_fitted, front, fitted_servers, Racks}
 use Rattle.plan.proofs.Adding.{before_two}
 use Rattle.hall.proofs.Racks.{one_fits}
-use Rattle.plan.proofs.Asks.{server-valid}
+use Rattle.plan.proofs.Asks.{server_valid}
 use Rattle.plan.proofs.Halls.{fitted_same}
 
 before_grows : (G C q i j : ℕ) → i ≤ j → before G C q i ≤ before G C q j
@@ -56,44 +56,44 @@ module _ (h : Hall) where
   module _ (pos : 0 < h.n) (c : ℕ) where
     -- server r of DCell1 q of DCell2 c
     module _ (q r : ℕ) (hq : q < t h.n 1 + 1) (hr : r < t h.n 1) where
-      at-cell : cell h.n 2 (c * t h.n 2 + (q * t h.n 1 + r)) ≡ c
+      at_cell : cell h.n 2 (c * t h.n 2 + (q * t h.n 1 + r)) ≡ c
       unfolding cell t
-      at-cell = place_up (t h.n 1) c q r hr hq
+      at_cell = place_up (t h.n 1) c q r hr hq
 
-      at-rack : cell h.n 1 (c * t h.n 2 + (q * t h.n 1 + r)) ≡ c * (t h.n 1 + 1) + q
+      at_rack : cell h.n 1 (c * t h.n 2 + (q * t h.n 1 + r)) ≡ c * (t h.n 1 + 1) + q
       unfolding cell t
-      at-rack = place_cell (t h.n 1) c q r hr
+      at_rack = place_cell (t h.n 1) c q r hr
 
-      at-sub : sub h.n 1 (c * t h.n 2 + (q * t h.n 1 + r)) ≡ q
+      at_sub : sub h.n 1 (c * t h.n 2 + (q * t h.n 1 + r)) ≡ q
       unfolding sub t
-      at-sub = place-sub (t h.n 1) c q r hr hq
+      at_sub = place_sub (t h.n 1) c q r hr hq
 
     -- the first server of DCell1 q
-    first-at : (q : ℕ) → c * t h.n 2 + q * t h.n 1 ≡ c * t h.n 2 + (q * t h.n 1 + 0)
-    first-at q = omega arith
+    first_at : (q : ℕ) → c * t h.n 2 + q * t h.n 1 ≡ c * t h.n 2 + (q * t h.n 1 + 0)
+    first_at q = omega arith
 
     before_first : (p q : ℕ) → p ≤ q → q < t h.n 1 + 1 → fitted h (c * t h.n 2 + q * t h.n 1) ≡ true → fitted h (c * t h.n 2 + p * t h.n 1) ≡ true
     before_first p q l b e =
-        let z = t-pos h.n pos 1 in
+        let z = t_pos h.n pos 1 in
         let lp : p < t h.n 1 + 1 = omega arith in
         let x : ℕ = c * t h.n 2 + (p * t h.n 1 + 0) in
         let y : ℕ = c * t h.n 2 + (q * t h.n 1 + 0) in
-        let s : same h.n 2 x y ≡ true = eq_same h.n 2 x y (at-cell p 0 lp z ∙ sym (at-cell q 0 b z)) in
-        let w : sub h.n 1 x ≤ sub h.n 1 y = rw (at-sub p 0 lp z, at-sub q 0 b z) l in
-        rw (first-at p) (fitted_before x y s w (rw (first-at q) at e))
+        let s : same h.n 2 x y ≡ true = eq_same h.n 2 x y (at_cell p 0 lp z ∙ sym (at_cell q 0 b z)) in
+        let w : sub h.n 1 x ≤ sub h.n 1 y = rw (at_sub p 0 lp z, at_sub q 0 b z) l in
+        rw (first_at p) (fitted_before x y s w (rw (first_at q) at e))
 
     -- THE FITTED DCELL1S OF A DCELL2 ARE THE FIRST ONES
     abbrev Front : ℕ → Type 0
     Front most = (front h (c * t h.n 2) most ≤ most) × ((q : ℕ) → q < most → fitted h (c * t h.n 2 + q * t h.n 1) ≡ ltb q (front h (c * t h.n 2) most))
 
-    pub front-racks : (most : ℕ) → most ≤ t h.n 1 + 1 → Front most
+    pub front_racks : (most : ℕ) → most ≤ t h.n 1 + 1 → Front most
     unfolding front
-    front-racks zero l = (omega arith, λ q b. absurd (omega arith))
-    front-racks (suc most) l =
+    front_racks zero l = (omega arith, λ q b. absurd (omega arith))
+    front_racks (suc most) l =
         let T : ℕ = t h.n 1 in
         let A : ℕ = c * t h.n 2 in
         let f : ℕ = front h A most in
-        let ih = front-racks most (omega arith) in
+        let ih = front_racks most (omega arith) in
         cases (fitted h (A + most * T))
         (λ e.
         let each : (q : ℕ) → q < most → q < f = λ q b. ltb-true q f (sym (ih.1 q b) ∙ before_first q most (omega arith) (omega arith) e) in
@@ -113,22 +113,22 @@ module _ (h : Hall) where
         whole (suc m) f l each = let k = each m (omega arith) in omega arith
 
     -- and so are its servers
-    pub front-servers : (x : ℕ) → x < t h.n 2 → fitted h (c * t h.n 2 + x) ≡ ltb x (front h (c * t h.n 2) (t h.n 1 + 1) * t h.n 1)
-    front-servers x l =
+    pub front_servers : (x : ℕ) → x < t h.n 2 → fitted h (c * t h.n 2 + x) ≡ ltb x (front h (c * t h.n 2) (t h.n 1 + 1) * t h.n 1)
+    front_servers x l =
         let T : ℕ = t h.n 1 in
         let A : ℕ = c * t h.n 2 in
         let f : ℕ = front h A (T + 1) in
-        let z = t-pos h.n pos 1 in
+        let z = t_pos h.n pos 1 in
         let d : x < (T + 1) * T = unfold t in l in
         let b : x / T < T + 1 = (div-lt_iff_lt-mul z).1 d in
         let r = mod-lt x z in
         let e : A + x ≡ A + (x / T * T + x % T) = ap (λ (v : ℕ). A + v) (sym (div-add-mod' x T)) in
         let s : same h.n 1 (A + (x / T * T + x % T)) (A + (x / T * T + 0)) ≡ true =
-        eq_same h.n 1 (A + (x / T * T + x % T)) (A + (x / T * T + 0)) (at-rack (x / T) (x % T) b r ∙ sym (at-rack (x / T) 0 b z)) in
+        eq_same h.n 1 (A + (x / T * T + x % T)) (A + (x / T * T + 0)) (at_rack (x / T) (x % T) b r ∙ sym (at_rack (x / T) 0 b z)) in
         ap (fitted h) e
         ∙ fitted_same h (A + (x / T * T + x % T)) (A + (x / T * T + 0)) s
-        ∙ ap (fitted h) (sym (first-at (x / T)))
-        ∙ (front-racks (T + 1) (omega arith)).1 (x / T) b
+        ∙ ap (fitted h) (sym (first_at (x / T)))
+        ∙ (front_racks (T + 1) (omega arith)).1 (x / T) b
         ∙ both_ways (ltb (x / T) f) (ltb x (f * T))
         (λ k. lt-ltb x (f * T) ((div-lt_iff_lt-mul z).0 (ltb-true (x / T) f k)))
         (λ k. lt-ltb (x / T) f ((div-lt_iff_lt-mul z).1 (ltb-true x (f * T) k)))
@@ -136,7 +136,7 @@ module _ (h : Hall) where
 -- one more DCell1 of the hall, as the code counts it
 module _ (h : Hall) (first most q : ℕ) (s : Racks h first most) (l : q < most) where
   rack_pos : 0 < t h.n 1
-  rack_pos = let v = valid_known h s.sound in t-pos h.n (omega (arith, v.n_low)) 1
+  rack_pos = let v = valid_known h s.sound in t_pos h.n (omega (arith, v.n_low)) 1
 
   pub rack_below : first + q * t h.n 1 < servers h
   rack_below = omega (arith, s.fit, mul-le-mul_right (t h.n 1) l, rack_pos)
@@ -170,18 +170,18 @@ pub record Two (h : Hall) (u size : ℕ) : Type 0 where
 
 module _ (h : Hall) (u r size : ℕ) (e : r ≡ pick (valid h) (servers h) 0) (l : u < r) (k : 2 ≤ h.k) (ez : size ≡ t h.n 1) where
   two_known : Valid h
-  two_known = valid_known h (server-valid h u r e l)
+  two_known = valid_known h (server_valid h u r e l)
 
   two_below : u < t h.n h.k
   unfolding servers
-  two_below = let q : r ≡ t h.n h.k = e ∙ rw (server-valid h u r e l) in omega arith
+  two_below = let q : r ≡ t h.n h.k = e ∙ rw (server_valid h u r e l) in omega arith
 
   -- the last server of the DCell2 is of the hall
   cell_in : u / t h.n 2 * t h.n 2 + t h.n 2 ≤ t h.n h.k
   cell_in =
       let T : ℕ = t h.n 2 in
       let pos : 0 < h.n = omega (arith, two_known.n_low) in
-      let z = t-pos h.n pos 2 in
+      let z = t_pos h.n pos 2 in
       let w : T - 1 < T = omega arith in
       let v : ℕ = u / T * T + (T - 1) in
       let s : same h.n 2 u v ≡ true = eq_same h.n 2 u v (unfold cell in (sym (digits_div (u / T) w))) in
@@ -195,18 +195,18 @@ module _ (h : Hall) (u r size : ℕ) (e : r ≡ pick (valid h) (servers h) 0) (l
       let pos : 0 < h.n = omega (arith, v.n_low) in
       let c : (t h.n 1 + 1) * t h.n 1 ≤ largest = t_fits h.n h.k 2 v.sized (omega arith) in
       rw ez (record {
-        sound = server-valid h u r e l;
+        sound = server_valid h u r e l;
         n_fits_lem = v.n_high;
-        cell_pos = t-pos h.n pos 2;
+        cell_pos = t_pos h.n pos 2;
         size_fits = one_fits h.n v.n_high;
         cell_fits = c;
         first_fits = omega (arith, div-add-mod' u ((t h.n 1 + 1) * t h.n 1));
-        racks = record { sound = server-valid h u r e l; fit = cell_in };
+        racks = record { sound = server_valid h u r e l; fit = cell_in };
       })
 
   pub two_is : (d : ℕ) → d ≡ front h (u / ((size + 1) * size) * ((size + 1) * size)) (size + 1) → d * size ≡ fitted_servers h u
   unfolding t cell servers
-  two_is d ed = rw (ed, ez, server-valid h u r e l, le-leb 2 h.k k, lt-ltb u (t h.n h.k) two_below)
+  two_is d ed = rw (ed, ez, server_valid h u r e l, le-leb 2 h.k k, lt-ltb u (t h.n h.k) two_below)
 
 pub two_low : (h : Hall) (u : ℕ) → h.k < 2 → 0 ≡ fitted_servers h u
 two_low h u l = rw (lt-leb 2 h.k l) (cases (valid h) (λ e. rw e) (λ e. rw e))

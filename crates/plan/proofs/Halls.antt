@@ -16,12 +16,12 @@ use Rattle.hall.specs.Cells.{t, same, sub}
 use Rattle.hall.specs.Halls.{places, racks, capacity, is_full}
 use Rattle.hall.specs.Tuples.{entry, entry_at, tuple}
 use Rattle.hall.proofs.Place.{inside_of}
-use Rattle.hall.proofs.Cells.{t-pos}
+use Rattle.hall.proofs.Cells.{t_pos}
 use Rattle.plan.specs.Plan.{place, IsPrefix, rank, prefix_of, start}
 use Rattle.plan.specs.Adding.{after, has}
 use Rattle.plan.specs.Answers.{fitted, prefix_at}
 use Rattle.plan.proofs.Place.{place_fits}
-use Rattle.plan.proofs.Servers.{prefix_same, prefix_start, server-at, fitted_has}
+use Rattle.plan.proofs.Servers.{prefix_same, prefix_start, server_at, fitted_has}
 use Rattle.plan.proofs.Sizes.{rank_below}
 
 -- servers of one DCell1 are fitted together
@@ -67,25 +67,25 @@ module _ (n : ℕ) where
 
   module _ (pos : 0 < n) where
     -- the first server of a DCell1 is its server 0
-    start-zero : (m : ℕ) (r : List ℕ) → IsPrefix n m r → start n m r % t n 1 ≡ 0
-    start-zero m r v =
-        let p = prefix_start n m r 0 v (t-pos n pos 1) in
+    start_zero : (m : ℕ) (r : List ℕ) → IsPrefix n m r → start n m r % t n 1 ≡ 0
+    start_zero m r v =
+        let p = prefix_start n m r 0 v (t_pos n pos 1) in
         let z : start n m r + 0 ≡ start n m r = omega arith in
         let q : prefix_of n m (start n m r) ≡ r = rw z at p.1 in
         let l : start n m r < t n (suc m) = omega (arith, p.0) in
-        let s : start n m r ≡ start n m r + start n m r % t n 1 = sym (mod-eq_of_lt l) ∙ server-at n pos m (start n m r) ∙ ap (λ (x : List ℕ). start n m x + start n m r % t n 1) q in
+        let s : start n m r ≡ start n m r + start n m r % t n 1 = sym (mod-eq_of_lt l) ∙ server_at n pos m (start n m r) ∙ ap (λ (x : List ℕ). start n m x + start n m r % t n 1) q in
         omega arith
 
-    zero-entries : (u : ℕ) → u % t n 1 ≡ 0 → (i : ℕ) → i < 2 → entry n i u ≡ 0
+    zero_entries : (u : ℕ) → u % t n 1 ≡ 0 → (i : ℕ) → i < 2 → entry n i u ≡ 0
     unfolding entry sub t
-    zero-entries u e zero h = sym (inside_of n u pos) ∙ rw e (zero-mod n)
-    zero-entries u e (suc zero) h = rw e (zero-div n)
-    zero-entries u e (suc (suc i)) h = absurd (omega arith)
+    zero_entries u e zero h = sym (inside_of n u pos) ∙ rw e (zero-mod n)
+    zero_entries u e (suc zero) h = rw e (zero-div n)
+    zero_entries u e (suc (suc i)) h = absurd (omega arith)
 
     -- the planner's entries are the tuple of the first server of the next DCell1
-    pub prefix-tuple : (k count : ℕ) → 2 ≤ k → count < racks n (k - 1) → up_to (prefix_at n k count) places ≡ tuple n k (start n (k - 1) (place n (k - 1) count))
+    pub prefix_tuple : (k count : ℕ) → 2 ≤ k → count < racks n (k - 1) → up_to (prefix_at n k count) places ≡ tuple n k (start n (k - 1) (place n (k - 1) count))
     unfolding prefix_at entry_at
-    prefix-tuple k count l h = up_to_cong (prefix_at n k count) (entry_at n k (start n (k - 1) (place n (k - 1) count))) places each
+    prefix_tuple k count l h = up_to_cong (prefix_at n k count) (entry_at n k (start n (k - 1) (place n (k - 1) count))) places each
       where
         v : IsPrefix n (k - 1) (place n (k - 1) count)
         v = place_fits n (k - 1) count h
@@ -93,7 +93,7 @@ module _ (n : ℕ) where
         own : prefix_of n (k - 1) (start n (k - 1) (place n (k - 1) count)) ≡ place n (k - 1) count
         own =
             let z : start n (k - 1) (place n (k - 1) count) + 0 ≡ start n (k - 1) (place n (k - 1) count) = omega arith in
-            rw z at (prefix_start n (k - 1) (place n (k - 1) count) 0 v (t-pos n pos 1)).1
+            rw z at (prefix_start n (k - 1) (place n (k - 1) count) 0 v (t_pos n pos 1)).1
 
         each : (i : ℕ) → i < places → prefix_at n k count i ≡ entry_at n k (start n (k - 1) (place n (k - 1) count)) i
         each i b = cases (leb 2 i)
@@ -104,5 +104,5 @@ module _ (n : ℕ) where
             rw (p, q) (sym (prefix_entry (k - 1) (start n (k - 1) (place n (k - 1) count)) i (leb-true 2 i p) (omega arith) ∙ rw (own, y))))
             (λ q. rw (p, q)))
             (λ p.
-            let z = zero-entries (start n (k - 1) (place n (k - 1) count)) (start-zero (k - 1) (place n (k - 1) count) v) i (leb-false 2 i p) in
+            let z = zero_entries (start n (k - 1) (place n (k - 1) count)) (start_zero (k - 1) (place n (k - 1) count) v) i (leb-false 2 i p) in
             rw (p, z) (sym (pick_same (leb i k) 0)))

@@ -8,7 +8,7 @@ use Rattle.hall.proofs.Growth.{t_up}
 use Rattle.hall.proofs.Racks.{racks_pos}
 use Rattle.hall.specs.Halls.{racks}
 use Rattle.plan.specs.Plan.{inside, place, IsPrefix, rank}
-use Rattle.plan.proofs.Index.{index_fits, inside_fits, before_index, index-before}
+use Rattle.plan.proofs.Index.{index_fits, inside_fits, before_index, index_before}
 
 module _ (n : ℕ) where
   enough : (m : ℕ) → t n 1 + 1 ≤ t n (suc m) + 1
@@ -39,7 +39,7 @@ module _ (n : ℕ) where
   place_rank (suc m) [] v = absurd v
   place_rank (suc m) (q ∷ r) v =
       let ih = place_rank m r v.1 in
-      let b = index-before (t n 1 + 1) (racks n m) (racks_pos n m) (t n (suc m) + 1) (enough m) q (rank n m r) v.0 ih.0 in
+      let b = index_before (t n 1 + 1) (racks n m) (racks_pos n m) (t n (suc m) + 1) (enough m) q (rank n m r) v.0 ih.0 in
       (b.0, ap₂ ◌∷◌ b.1 (ap (place n m) b.2 ∙ ih.1))
 
   -- no prefix comes twice

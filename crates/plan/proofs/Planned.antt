@@ -18,7 +18,7 @@ use Rattle.plan.specs.Planned.{ByFigure, ByTuple, NeverTwice, NeverMoves, AllPla
 use Rattle.plan.proofs.Place.{place_fits, place_rank, place_once}
 use Rattle.plan.proofs.Adding.{add-place, stays, new_free, new_fitted, others_stay, fitted_placed}
 use Rattle.plan.proofs.Asks.{room}
-use Rattle.plan.proofs.Halls.{fitted_full, fitted_adding, prefix-tuple}
+use Rattle.plan.proofs.Halls.{fitted_full, fitted_adding, prefix_tuple}
 use Rattle.plan.proofs.Words.{place_two, place_three_new, place_three_fill, place_three_more}
 
 pub by_figure : ByFigure
@@ -28,7 +28,7 @@ pub by_tuple : ByTuple
 unfolding capacity
 by_tuple h e =
     let r = room h e in
-    rw e (prefix-tuple h.n (omega (arith, r.known.n_low)) h.k h.count r.high r.below)
+    rw e (prefix_tuple h.n (omega (arith, r.known.n_low)) h.k h.count r.high r.below)
 
 pub never_twice : NeverTwice
 never_twice n m c d h k e = place_once n m c d h k e

@@ -21,9 +21,9 @@ module _ {A : Type 0} where
   all_of p (a ∷ r) = p a && all_of p r
 
   -- the smallest index whose member fails the test
-  unfoldable pub firstNot : (A → Bool) → List A → ℕ
-  firstNot p [] = 0
-  firstNot p (a ∷ r) = elim (p a) [ true ↦ suc (firstNot p r) | false ↦ 0 ]
+  unfoldable pub first_not : (A → Bool) → List A → ℕ
+  first_not p [] = 0
+  first_not p (a ∷ r) = elim (p a) [ true ↦ suc (first_not p r) | false ↦ 0 ]
 
   -- x at index i; behind the last where there is no index i
   unfoldable pub put : List A → ℕ → A → List A
@@ -49,7 +49,7 @@ full n m s = eqb (size m s) (racks n m)
 unfoldable pub get_index : (n m : ℕ) → List (Fitted m) → ℕ
 get_index n m s = elim (ltb (length s) (t n 1 + 1)) [
   | true ↦ length s
-  | false ↦ elim (all_of (full n m) s) [ true ↦ length s | false ↦ firstNot (full n m) s ]
+  | false ↦ elim (all_of (full n m) s) [ true ↦ length s | false ↦ first_not (full n m) s ]
 ]
 
 -- AddDCell in a DCell of level m + 2: the prefix that the new DCell1 gets, and what is fitted then. A sub-cell that is not there is empty.

@@ -7,7 +7,7 @@ use Rattle.hall.specs.Refusals.{refusal}
 use Rattle.hall.specs.Cells.{t, cell, sub}
 use Rattle.hall.specs.Halls.{hall_of, racks, capacity, n_fits, k_fits, b_fits, count_fits, valid, is_full, servers}
 use Rattle.plan.specs.Plan.{index, inside, place, before, rank, prefix_of}
-use Rattle.plan.specs.Adding.{total, all_of, firstNot, put, size, full, get_index, add, after}
+use Rattle.plan.specs.Adding.{total, all_of, first_not, put, size, full, get_index, add, after}
 use Rattle.plan.specs.Answers.{fitted, is_fitted, front, fitted_servers, prefix_at, next_prefix}
 
 -- a hall of so many DCell1s
@@ -45,7 +45,7 @@ places = refl
 
 -- the procedure itself, after 50 additions
 procedure : (add 2 1 (after 2 1 50)).0 ≡ 7 ∷ 1 ∷ []
-unfolding after add get_index full size put firstNot all_of total racks t
+unfolding after add get_index full size put first_not all_of total racks t
 procedure = refl
 
 -- with 8 fitted, the servers 6 to 11 of [0, 1] are; 12 is not, nor is 1806, which is none of the hall

@@ -13,7 +13,7 @@ use Rattle.combine.specs.Tests.{both, any_below}
 use Rattle.combine.proofs.Tests.{cases, never, both_ways, both_left, both_right, both_true, both_swap, either_true, either_left, either_right, either_cases, any_in, any_some}
 use Rattle.hall.specs.declared.Hall.{Hall}
 use Rattle.hall.specs.Cells.{t, cell, same, neighbour, Joined, switch, link}
-use Rattle.hall.proofs.Cells.{same_eq, eq_same, same_sym, same_up, t-pos, neighbour-neighbour, neighbour-stays}
+use Rattle.hall.proofs.Cells.{same_eq, eq_same, same_sym, same_up, t_pos, neighbour_neighbour, neighbour_stays}
 use Rattle.ports.specs.Codes.{up, SameUps}
 use Rattle.ports.specs.Links.{on_switch, both_up, wired, joined, switch_has, touched}
 use Rattle.ports.proofs.Tables.{up_agrees}
@@ -43,7 +43,7 @@ pub same_below : (n i x y : ℕ) → 0 < n → same n i x y ≡ true → x < t n
 unfolding cell
 same_below n i x y pos e h =
     let z : y / t n i ≡ 0 = sym (same_eq n i x y e) ∙ div-eq_of_lt h in
-    let m : y % t n i < t n i = mod-lt y (t-pos n pos i) in
+    let m : y % t n i < t n i = mod-lt y (t_pos n pos i) in
     let d : y / t n i * t n i + y % t n i ≡ y = div-add-mod' y (t n i) in
     let s : 0 * t n i + y % t n i ≡ y = rw z at d in
     omega arith
@@ -54,16 +54,16 @@ module _ (n : ℕ) where
   switch_symmetric x y = rw (eqb_swap (cell n 0 x) (cell n 0 y), eqb_swap x y)
 
   module _ (pos : 0 < n) where
-    pub neighbour-symmetric : (j x y : ℕ) → eqb (neighbour n j x) y ≡ eqb (neighbour n j y) x
-    neighbour-symmetric j x y =
+    pub neighbour_symmetric : (j x y : ℕ) → eqb (neighbour n j x) y ≡ eqb (neighbour n j y) x
+    neighbour_symmetric j x y =
         both_ways (eqb (neighbour n j x) y) (eqb (neighbour n j y) x)
-        (λ e. eq-eqb (neighbour n j y) x (sym (ap (neighbour n j) (eqb-true (neighbour n j x) y e)) ∙ neighbour-neighbour n pos j x))
-        (λ e. eq-eqb (neighbour n j x) y (sym (ap (neighbour n j) (eqb-true (neighbour n j y) x e)) ∙ neighbour-neighbour n pos j y))
+        (λ e. eq-eqb (neighbour n j y) x (sym (ap (neighbour n j) (eqb-true (neighbour n j x) y e)) ∙ neighbour_neighbour n pos j x))
+        (λ e. eq-eqb (neighbour n j x) y (sym (ap (neighbour n j) (eqb-true (neighbour n j y) x e)) ∙ neighbour_neighbour n pos j y))
 
-    pub wired-symmetric : (l x y : ℕ) → wired n l x y ≡ wired n l y x
+    pub wired_symmetric : (l x y : ℕ) → wired n l x y ≡ wired n l y x
     unfolding wired
-    wired-symmetric zero x y = switch_symmetric x y
-    wired-symmetric (suc j) x y = rw (wired-symmetric j x y, neighbour-symmetric j x y)
+    wired_symmetric zero x y = switch_symmetric x y
+    wired_symmetric (suc j) x y = rw (wired_symmetric j x y, neighbour_symmetric j x y)
 
 module _ (h : Hall) (table : List ℕ) where
   pub up_symmetric : (i x y : ℕ) → both_up h table i x y ≡ both_up h table i y x
@@ -96,10 +96,10 @@ module _ (h : Hall) (table : List ℕ) where
       (eq-or-lt_of_le k)
 
   module _ (pos : 0 < h.n) where
-    pub joined-symmetric : (l x y : ℕ) → joined h table l x y ≡ joined h table l y x
+    pub joined_symmetric : (l x y : ℕ) → joined h table l x y ≡ joined h table l y x
     unfolding joined
-    joined-symmetric zero x y = rw (switch_symmetric h.n x y, up_symmetric 0 x y)
-    joined-symmetric (suc j) x y = rw (joined-symmetric j x y, neighbour-symmetric h.n pos j x y, up_symmetric (suc j) x y)
+    joined_symmetric zero x y = rw (switch_symmetric h.n x y, up_symmetric 0 x y)
+    joined_symmetric (suc j) x y = rw (joined_symmetric j x y, neighbour_symmetric h.n pos j x y, up_symmetric (suc j) x y)
 
 -- a link of level at most l joins two servers of one DCell(l)
 pub wired_same : (n : ℕ) → 0 < n → (l x y : ℕ) → wired n l x y ≡ true → same n l x y ≡ true
@@ -108,7 +108,7 @@ wired_same n pos zero x y e = both_left (same n 0 x y) (not (eqb x y)) e
 wired_same n pos (suc j) x y e =
     either_cases (wired n j x y) (eqb (neighbour n j x) y) e
     (λ q. same_up n j x y (wired_same n pos j x y q))
-    (λ q. let w = eqb-true (neighbour n j x) y q in rw w at (neighbour-stays n pos j x))
+    (λ q. let w = eqb-true (neighbour n j x) y q in rw w at (neighbour_stays n pos j x))
 
 module _ (h : Hall) (table : List ℕ) (pos : 0 < h.n) where
   pub joined_same : (l x y : ℕ) → joined h table l x y ≡ true → same h.n l x y ≡ true
@@ -134,24 +134,24 @@ module _ (h : Hall) (table : List ℕ) (pos : 0 < h.n) where
         let y : ℕ = x / h.n * h.n + k.0 in
         (y, eq_same h.n 0 y x (digits_div (x / h.n) k.1), both_left (p y) (up h table y 0) k.2, both_right (p y) (up h table y 0) k.2)
 
-    joined-touched : (l x y : ℕ) → p y ≡ true → joined h table l y x ≡ true → touched h table p l x ≡ true
+    joined_touched : (l x y : ℕ) → p y ≡ true → joined h table l y x ≡ true → touched h table p l x ≡ true
     unfolding joined touched on_switch both_up
-    joined-touched zero x y q e =
+    joined_touched zero x y q e =
         let s = both_left (both (same h.n 0 y x) (not (eqb y x))) (both (up h table y 0) (up h table x 0)) e in
         let u = both_right (both (same h.n 0 y x) (not (eqb y x))) (both (up h table y 0) (up h table x 0)) e in
         both_true (up h table x 0) (switch_has h table p (cell h.n 0 x)) (both_right (up h table y 0) (up h table x 0) u)
         (has_in x y (same_sym h.n 0 y x (both_left (same h.n 0 y x) (not (eqb y x)) s)) q (both_left (up h table y 0) (up h table x 0) u))
-    joined-touched (suc j) x y q e =
+    joined_touched (suc j) x y q e =
         either_cases (joined h table j y x) (both (eqb (neighbour h.n j y) x) (both_up h table (suc j) y x)) e
-        (λ w. either_left (touched h table p j x) (both (p (neighbour h.n j x)) (both_up h table (suc j) (neighbour h.n j x) x)) (joined-touched j x y q w))
+        (λ w. either_left (touched h table p j x) (both (p (neighbour h.n j x)) (both_up h table (suc j) (neighbour h.n j x) x)) (joined_touched j x y q w))
         (λ w.
-        let f : neighbour h.n j x ≡ y = eqb-true (neighbour h.n j x) y (neighbour-symmetric h.n pos j x y ∙ both_left (eqb (neighbour h.n j y) x) (both_up h table (suc j) y x) w) in
+        let f : neighbour h.n j x ≡ y = eqb-true (neighbour h.n j x) y (neighbour_symmetric h.n pos j x y ∙ both_left (eqb (neighbour h.n j y) x) (both_up h table (suc j) y x) w) in
         either_right (touched h table p j x) (both (p (neighbour h.n j x)) (both_up h table (suc j) (neighbour h.n j x) x))
         (rw f (both_true (p y) (both_up h table (suc j) y x) q (both_right (eqb (neighbour h.n j y) x) (both_up h table (suc j) y x) w))))
 
-    touched-joined : (l x : ℕ) → p x ≡ false → touched h table p l x ≡ true → (y : ℕ) × (p y ≡ true) × (joined h table l y x ≡ true)
+    touched_joined : (l x : ℕ) → p x ≡ false → touched h table p l x ≡ true → (y : ℕ) × (p y ≡ true) × (joined h table l y x ≡ true)
     unfolding joined touched on_switch both_up
-    touched-joined zero x z e =
+    touched_joined zero x z e =
         let u = both_left (up h table x 0) (switch_has h table p (cell h.n 0 x)) e in
         let k = has_some x (both_right (up h table x 0) (switch_has h table p (cell h.n 0 x)) e) in
         let y : ℕ = k.0 in
@@ -162,27 +162,27 @@ module _ (h : Hall) (table : List ℕ) (pos : 0 < h.n) where
               (both_true (same h.n 0 y x) (not (eqb y x)) k.1 (ap not (ne_eqb y x ne)))
               (both_true (up h table y 0) (up h table x 0) k.3 u),
         )
-    touched-joined (suc j) x z e =
+    touched_joined (suc j) x z e =
         either_cases (touched h table p j x) (both (p (neighbour h.n j x)) (both_up h table (suc j) (neighbour h.n j x) x)) e
-        (λ w. let k = touched-joined j x z w in
+        (λ w. let k = touched_joined j x z w in
         (k.0, k.1, either_left (joined h table j k.0 x) (both (eqb (neighbour h.n j k.0) x) (both_up h table (suc j) k.0 x)) k.2))
         (λ w.
         let y : ℕ = neighbour h.n j x in (
           y,
           both_left (p y) (both_up h table (suc j) y x) w,
           either_right (joined h table j y x) (both (eqb (neighbour h.n j y) x) (both_up h table (suc j) y x))
-              (both_true (eqb (neighbour h.n j y) x) (both_up h table (suc j) y x) (eq-eqb (neighbour h.n j y) x (neighbour-neighbour h.n pos j x)) (both_right (p y) (both_up h table (suc j) y x) w)),
+              (both_true (eqb (neighbour h.n j y) x) (both_up h table (suc j) y x) (eq-eqb (neighbour h.n j y) x (neighbour_neighbour h.n pos j x)) (both_right (p y) (both_up h table (suc j) y x) w)),
         ))
 
-    pub any-joined : (l x : ℕ) → x < t h.n l → p x ≡ false → any_below (λ y. both (p y) (joined h table l y x)) (t h.n l) ≡ touched h table p l x
-    any-joined l x b z =
+    pub any_joined : (l x : ℕ) → x < t h.n l → p x ≡ false → any_below (λ y. both (p y) (joined h table l y x)) (t h.n l) ≡ touched h table p l x
+    any_joined l x b z =
         both_ways (any_below (λ y. both (p y) (joined h table l y x)) (t h.n l)) (touched h table p l x)
         (λ e. let k = any_some (λ y. both (p y) (joined h table l y x)) (t h.n l) e in
-        joined-touched l x k.0 (both_left (p k.0) (joined h table l k.0 x) k.2) (both_right (p k.0) (joined h table l k.0 x) k.2))
-        (λ e. let k = touched-joined l x z e in
+        joined_touched l x k.0 (both_left (p k.0) (joined h table l k.0 x) k.2) (both_right (p k.0) (joined h table l k.0 x) k.2))
+        (λ e. let k = touched_joined l x z e in
         let y : ℕ = k.0 in
         any_in (λ y. both (p y) (joined h table l y x)) (t h.n l) y
-        (joined_below l x y (joined-symmetric h table pos l x y ∙ k.2) b) (both_true (p y) (joined h table l y x) k.1 k.2))
+        (joined_below l x y (joined_symmetric h table pos l x y ∙ k.2) b) (both_true (p y) (joined h table l y x) k.1 k.2))
 
 -- two tables with code 1 at the same places join the same servers
 pub joined_agrees : (h : Hall) (a b : List ℕ) → SameUps a b → (l x y : ℕ) → joined h a l x y ≡ joined h b l x y

@@ -17,7 +17,7 @@ use Rattle.hall.specs.Halls.{places, valid, servers, asks_hall, asks_uid}
 use Rattle.hall.specs.Refusals.{refusal, in_order, bad_hall, bad_length, bad_uid, bad_code}
 use Rattle.hall.proofs.Asks.{refusal_in_order, unrefused_hold}
 use Rattle.hall.proofs.Growth.{valid_known, valid_pos, valid_size, valid_servers, some_servers}
-use Rattle.ports.specs.Codes.{largest_table, all_known, first_unknown, table_length, cell_length, run, part}
+use Rattle.ports.specs.Codes.{largest_table, all_known_lem, first_unknown, table_length, cell_length, run, part}
 use Rattle.ports.specs.Answers.{asks_table, check_of, part_refusal, part_of}
 use Rattle.ports.specs.declared.TableCheck.{TableCheck}
 use Rattle.ports.proofs.Tables.{all_known_lem, some_unknown}
@@ -92,10 +92,10 @@ table_fits h v =
 
 -- the four answers of the table check
 module _ (h : Hall) (table : List ℕ) where
-  check_asks : refusal (asks_hall h ∷ asks_table h table ∷ (bad_code, all_known table) ∷ [])
-      ≡ pick (valid h) (pick (eqb (length table) (table_length h)) (pick (all_known table) 0 bad_code) bad_length) bad_hall
+  check_asks : refusal (asks_hall h ∷ asks_table h table ∷ (bad_code, all_known_lem table) ∷ [])
+      ≡ pick (valid h) (pick (eqb (length table) (table_length h)) (pick (all_known_lem table) 0 bad_code) bad_length) bad_hall
   unfolding in_order
-  check_asks = refusal_in_order (asks_hall h ∷ asks_table h table ∷ (bad_code, all_known table) ∷ []) refl
+  check_asks = refusal_in_order (asks_hall h ∷ asks_table h table ∷ (bad_code, all_known_lem table) ∷ []) refl
 
   pub check_hall : valid h ≡ false → ◌≡◌ {A = TableCheck} (record { refusal = 1; place = 0 }) (check_of h table)
   check_hall v = rw (check_asks, v)
@@ -117,37 +117,37 @@ module _ (h : Hall) (table : List ℕ) where
 
   -- the four answers on a uid
   module _ (u : ℕ) where
-    part-asks : part_refusal h table u ≡ pick (valid h) (pick (eqb (length table) (table_length h)) (pick (ltb u (servers h)) 0 bad_uid) bad_length) bad_hall
+    part_asks : part_refusal h table u ≡ pick (valid h) (pick (eqb (length table) (table_length h)) (pick (ltb u (servers h)) 0 bad_uid) bad_length) bad_hall
     unfolding in_order
-    part-asks = refusal_in_order (asks_hall h ∷ asks_table h table ∷ asks_uid h u ∷ []) refl
+    part_asks = refusal_in_order (asks_hall h ∷ asks_table h table ∷ asks_uid h u ∷ []) refl
 
-    pub part-hall : valid h ≡ false → 1 ≡ part_refusal h table u
-    part-hall v = rw (part-asks, v)
+    pub part_hall : valid h ≡ false → 1 ≡ part_refusal h table u
+    part_hall v = rw (part_asks, v)
 
     pub part_length : valid h ≡ true → (length table ≡ table_length h → ⊥) → 4 ≡ part_refusal h table u
-    part_length v l = rw (part-asks, v, ne_eqb (length table) (table_length h) l)
+    part_length v l = rw (part_asks, v, ne_eqb (length table) (table_length h) l)
 
-    pub part-uid : valid h ≡ true → length table ≡ table_length h → servers h ≤ u → 2 ≡ part_refusal h table u
-    part-uid v l b = rw (part-asks, v, eq-eqb (length table) (table_length h) l, le-ltb u (servers h) b)
+    pub part_uid : valid h ≡ true → length table ≡ table_length h → servers h ≤ u → 2 ≡ part_refusal h table u
+    part_uid v l b = rw (part_asks, v, eq-eqb (length table) (table_length h) l, le-ltb u (servers h) b)
 
-    pub part-good : valid h ≡ true → length table ≡ table_length h → u < servers h → 0 ≡ part_refusal h table u
-    part-good v l b = rw (part-asks, v, eq-eqb (length table) (table_length h) l, lt-ltb u (servers h) b)
+    pub part_good : valid h ≡ true → length table ≡ table_length h → u < servers h → 0 ≡ part_refusal h table u
+    part_good v l b = rw (part_asks, v, eq-eqb (length table) (table_length h) l, lt-ltb u (servers h) b)
 
     -- a part that is refused is empty
-    pub part-empty : (r : ℕ) → r ≡ part_refusal h table u → (r ≡ 0 → ⊥) → [] ≡ part_of h table u
-    part-empty r e ne = rw (← e, ne_eqb r 0 ne)
+    pub part_empty : (r : ℕ) → r ≡ part_refusal h table u → (r ≡ 0 → ⊥) → [] ≡ part_of h table u
+    part_empty r e ne = rw (← e, ne_eqb r 0 ne)
 
     -- one that is not is the run for the DCell(b), between two places of the table
     module _ (r count bytes : ℕ) (e : r ≡ part_refusal h table u) (z : r ≡ 0) (size : count ≡ t h.n h.b) where
       pub part_sound : Sound h table u
       part_sound = sound h table u (sym e ∙ z)
 
-      pub part-counts : 0 < count
-      part-counts = rw size (valid_pos h (valid_known h part_sound.is_valid) h.b)
+      pub part_counts : 0 < count
+      part_counts = rw size (valid_pos h (valid_known h part_sound.is_valid) h.b)
 
       module _ (wide : bytes ≡ count * (h.k + 1)) where
-        pub part-within : u / count * bytes + bytes ≤ length table
-        part-within = taken_within h table u part_sound count bytes size wide
+        pub part_within : u / count * bytes + bytes ≤ length table
+        part_within = taken_within h table u part_sound count bytes size wide
 
-        pub part-is : take (u / count * bytes + bytes - u / count * bytes) (drop (u / count * bytes) table) ≡ part_of h table u
-        part-is = taken_is h table u part_sound count bytes size wide ∙ rw (← e, z)
+        pub part_is : take (u / count * bytes + bytes - u / count * bytes) (drop (u / count * bytes) table) ≡ part_of h table u
+        part_is = taken_is h table u part_sound count bytes size wide ∙ rw (← e, z)

@@ -15,7 +15,7 @@ use Rattle.combine.specs.Tests.{pick}
 use Rattle.combine.proofs.Tests.{cases, both_ways, both_alone}
 use Rattle.hall.specs.declared.Hall.{Hall}
 use Rattle.hall.specs.Cells.{t, cell, same, neighbour, neighbour_over}
-use Rattle.hall.proofs.Cells.{t-pos}
+use Rattle.hall.proofs.Cells.{t_pos}
 use Rattle.ports.specs.Codes.{code_of, up, cell_length, run, SameUps, EveryUp}
 use Rattle.ports.specs.Links.{on_switch, both_up, wired, joined}
 use Rattle.ports.proofs.Parts.{Sound, run_within, t_whole}
@@ -44,7 +44,7 @@ run_up h table i u x p b l =
 pub part_up : (h : Hall) (table : List ℕ) (i u p : ℕ) → 0 < h.n → p ≤ h.k → up h (run h table i u) (u % t h.n i) p ≡ up h table u p
 unfolding cell
 part_up h table i u p pos l =
-    run_up h table i u (u % t h.n i) p (mod-lt u (t-pos h.n pos i)) l
+    run_up h table i u (u % t h.n i) p (mod-lt u (t_pos h.n pos i)) l
     ∙ ap (λ (v : ℕ). up h table v p) (div-add-mod' u (t h.n i))
 
 -- what is taken of tables with code 1 at the same places, and what is left of them, has it at the same places; and so have their runs
@@ -97,7 +97,7 @@ unfolding neighbour t
 neighbour_shift n pos i j c x h =
     let w = t_whole n (suc j) i h in
     let e : c * t n i ≡ c * w.0 * ((t n j + 1) * t n j) = ap (λ (v : ℕ). c * v) w.1 ∙ omega arith in
-    rw e (shift_over (t n j) (c * w.0) x (t-pos n pos j))
+    rw e (shift_over (t n j) (c * w.0) x (t_pos n pos j))
 
 switch_shift : (n : ℕ) → 0 < n → (i c x y : ℕ) → on_switch n (c * t n i + x) (c * t n i + y) ≡ on_switch n x y
 unfolding on_switch same cell t

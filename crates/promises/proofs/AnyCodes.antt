@@ -15,7 +15,7 @@ use Rattle.ports.specs.Links.{both_up}
 use Rattle.ports.proofs.Parts.{Sound}
 use Rattle.ports.proofs.Links.{joined_more, joined_at}
 use Rattle.counted.specs.Counted.{counted}
-use Rattle.counted.proofs.Counted.{counted-length}
+use Rattle.counted.proofs.Counted.{counted_length}
 use Rattle.local.proofs.Uids.{linked_hall}
 use Rattle.local.specs.Local.{place_of, linked}
 use Rattle.ends.specs.Tables.{step_table, cell_part}
@@ -24,9 +24,9 @@ use Rattle.forward.specs.declared.Packet.{Packet}
 use Rattle.forward.specs.Packets.{forwarded, drop_retry, tidied}
 use Rattle.forward.specs.Endings.{Spent}
 use Rattle.forward.specs.Journeys.{step_at, sight}
-use Rattle.forward.proofs.Steps.{delivered_there, drop_ttl_there, drop-route_means, drop-retry_means, drop-proxy_means}
-use Rattle.forward.proofs.Ways.{Fits, Hop, inside, over, Final, final_delivered, final_drop_ttl, final_drop-route, final_drop-retry, final_drop-proxy}
-use Rattle.forward.proofs.Trips.{tidied_dst, tidied_ttl, tidied_retry, tidied_fits, trip_travels, links_within, reroutes_within, trip_ending, trip_last, each-hop}
+use Rattle.forward.proofs.Steps.{delivered_there, drop_ttl_there, drop_route_means, drop_retry_means, drop_proxy_means}
+use Rattle.forward.proofs.Ways.{Fits, Hop, inside, over, Final, final_delivered, final_drop_ttl, final_drop_route, final_drop_retry, final_drop_proxy}
+use Rattle.forward.proofs.Trips.{tidied_dst, tidied_ttl, tidied_retry, tidied_fits, trip_travels, links_within, reroutes_within, trip_ending, trip_last, each_hop}
 use Rattle.forward.proofs.Hops.{Forwards, step_forwards}
 use Rattle.forward.proofs.Sight.{seen_links, usable_own}
 use Rattle.promises.specs.Journeys.{Usable}
@@ -69,7 +69,7 @@ module _ (h : Hall) (table : List ℕ) (is_valid : valid h ≡ true) (long : len
       step_forwards h (sight h table me) (Own me) (seen_links h (step_table h table me) known) is_valid me (tidied p) k.0 (tidied_fits h p k.1) e
 
   pub stands_on : (me : ℕ) (p : Packet) → Stands h me p → (step_at h table me p).ending ≡ forwarded → Stands h (step_at h table me p).next (step_at h table me p).packet
-  stands_on me p k e = let f = forwards me p k e in (f.inside-hall, f.packet_fits)
+  stands_on me p k e = let f = forwards me p k e in (f.inside_hall, f.packet_fits)
 
   pub hops_usable : (me : ℕ) (p : Packet) → Stands h me p → (step_at h table me p).ending ≡ forwarded → Usable h table me (step_at h table me p).next
   hops_usable me p k e = hop_usable me (step_at h table me p).next k.0 (forwards me p k e).hop
@@ -80,15 +80,15 @@ means h table at p final_delivered q = means_delivered (delivered_there h (sight
 means h table at p final_drop_ttl q =
     let w = drop_ttl_there h (sight h table at) at (tidied p) q in
     means_ttl (λ e. w.0 (e ∙ sym (tidied_dst p))) (sym (tidied_ttl p) ∙ w.1)
-means h table at p final_drop-route q = means_route (drop-route_means h (sight h table at) at (tidied p) q)
-means h table at p final_drop-retry q = means_retry (drop-retry_means h (sight h table at) at (tidied p) q)
-means h table at p final_drop-proxy q = means_proxy (drop-proxy_means h (sight h table at) at (tidied p) q)
+means h table at p final_drop_route q = means_route (drop_route_means h (sight h table at) at (tidied p) q)
+means h table at p final_drop_retry q = means_retry (drop_retry_means h (sight h table at) at (tidied p) q)
+means h table at p final_drop_proxy q = means_proxy (drop_proxy_means h (sight h table at) at (tidied p) q)
 
 -- a hall table as its codes count is one too
 pub sound_counted : (h : Hall) (table : List ℕ) (source : ℕ) (p : Packet) → journeys.Sound h table source p → journeys.Sound h (counted h 0 table) source p
 sound_counted h table source p s = record {
   hall_valid = s.hall_valid;
-  table_long = counted-length h 0 table ∙ s.table_long;
+  table_long = counted_length h 0 table ∙ s.table_long;
   source_in = s.source_in;
   dst_in = s.dst_in;
   proxy_in = s.proxy_in;
@@ -113,7 +113,7 @@ kept h table source p s =
         means = means h table l.at l.came (trip_ending h table w) l.ends_it;
       };
       links_usable =
-          each-hop h table (Stands h) (Usable h table) (stands_on h table s.hall_valid s.table_long) (hops_usable h table s.hall_valid s.table_long)
+          each_hop h table (Stands h) (Usable h table) (stands_on h table s.hall_valid s.table_long) (hops_usable h table s.hall_valid s.table_long)
           w (departs h table source p s);
       links_few = links_within h table w;
       reroutes_few = reroutes_within h table w;

@@ -13,7 +13,7 @@ use Rattle.combine.proofs.Tests.{both_left, both_right, either_cases}
 use Rattle.hall.specs.declared.Hall.{Hall}
 use Rattle.hall.specs.Cells.{same, neighbour, lowest}
 use Rattle.hall.specs.Halls.{valid}
-use Rattle.hall.proofs.Cells.{neighbour-stays, neighbour-leaves}
+use Rattle.hall.proofs.Cells.{neighbour_stays, neighbour_leaves}
 use Rattle.hall.proofs.Growth.{valid_known}
 use Rattle.ports.specs.Codes.{up, table_length, EveryUp}
 use Rattle.ports.specs.Links.{on_switch, both_up, joined}
@@ -33,17 +33,17 @@ use Rattle.forward.specs.Steps.{step}
 use Rattle.forward.specs.Answers.{refused_step, step_of}
 use Rattle.promises.specs.Journeys as journeys
 use Rattle.forward.proofs.Links.{n_pos}
-use Rattle.forward.proofs.Trips.{trip_travels, each-hop}
+use Rattle.forward.proofs.Trips.{trip_travels, each_hop}
 use Rattle.forward.proofs.Agree.{lent_agrees, trip_on_same}
 use Rattle.forward.proofs.Counting.{step_counting, step_counted}
 use Rattle.forward.proofs.Before.{all_up_before}
-use Rattle.forward.proofs.Sight.{usable-hall}
+use Rattle.forward.proofs.Sight.{usable_hall}
 use Rattle.promises.specs.BothEnds.{UsableByBoth, EndsUp, EveryEndUp, StepsRest, StepLent, AllUpUnchanged}
 use Rattle.promises.proofs.AnyCodes.{Stands, departs, known_at, stands_on, hops_usable, sound_counted}
 use Rattle.promises.proofs.Counts.{sound_unrefused}
 
 pub usable_by_both : UsableByBoth
-usable_by_both h table me place i v long here = usable-hall h table me (known_at h table v long me here) i place
+usable_by_both h table me place i v long here = usable_hall h table me (known_at h table v long me here) i place
 
 module _ (h : Hall) (table : List ℕ) (pos : 0 < h.n) (x y : ℕ) where
   ends_at : (i : ℕ) → lowest h.n h.k x y ≡ i → both_up h table i x y ≡ true → EndsUp h table x y
@@ -63,8 +63,8 @@ module _ (h : Hall) (table : List ℕ) (pos : 0 < h.n) (x y : ℕ) where
       (λ q. joined_ends j (omega arith) q)
       (λ q.
       let w = eqb-true (neighbour h.n j x) y (both_left (eqb (neighbour h.n j x) y) (both_up h table (suc j) x y) q) in
-      let a : same h.n j x y ≡ false = rw w at (neighbour-leaves h.n pos j x) in
-      let s : same h.n (suc j) x y ≡ true = rw w at (neighbour-stays h.n pos j x) in
+      let a : same h.n j x y ≡ false = rw w at (neighbour_leaves h.n pos j x) in
+      let s : same h.n (suc j) x y ≡ true = rw w at (neighbour_stays h.n pos j x) in
       ends_at (suc j) (lowest_only h.n h.k x y j high a s) (both_right (eqb (neighbour h.n j x) y) (both_up h table (suc j) x y) q))
 
 pub every_end_up : EveryEndUp
@@ -72,7 +72,7 @@ every_end_up h table source p s =
     let pos = n_pos h (valid_known h s.hall_valid) in
     let c = sound_counted h table source p s in
     let T : List ℕ = counted h 0 table in
-    each-hop h T (Stands h) (EndsUp h table) (stands_on h T c.hall_valid c.table_long)
+    each_hop h T (Stands h) (EndsUp h table) (stands_on h T c.hall_valid c.table_long)
     (λ me q k e. joined_ends h table pos me (step_at h T me q).next h.k (omega arith)
     (joined_stands h pos table me (step_at h T me q).next (hops_usable h T c.hall_valid c.table_long me q k e)))
     (trip_travels h T source p) (departs h T source p c)

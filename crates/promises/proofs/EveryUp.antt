@@ -41,17 +41,17 @@ use Rattle.forward.specs.Packets.{forwarded, delivered, cleared, tidied, is_arri
 use Rattle.forward.specs.Seen.{usable, seen}
 use Rattle.forward.specs.Steps.{reachable, step_on}
 use Rattle.forward.specs.Journeys.{Trip, step_at, ends_at, trip, sight}
-use Rattle.forward.specs.Endings.{Target, the-goal, the-near, Fails, unusable, out-of-reach}
-use Rattle.forward.specs.Travels.{Last, Travels, last_step, one-step}
-use Rattle.forward.proofs.Ways.{nears, crosses, no_route_lem, spent, no-proxy, Passes, ends, clears, sets, Steps, delivers, dies, arrives, sets_out, Fits}
+use Rattle.forward.specs.Endings.{Target, the_goal, the_near, Fails, unusable, out_of_reach}
+use Rattle.forward.specs.Travels.{Last, Travels, last_step, one_step}
+use Rattle.forward.proofs.Ways.{nears, crosses, no_route_lem, spent, no_proxy, Passes, ends, clears, sets, Steps, delivers, dies, arrives, sets_out, Fits}
 use Rattle.forward.proofs.Steps.{step_ways, there_delivered, there_drop_ttl}
 use Rattle.forward.proofs.Trips.{step_sends, trip_travels, links_counted}
 use Rattle.forward.proofs.Links.{n_pos, link_above, none_above, link_ahead}
 use Rattle.forward.proofs.Hops.{step_forwards}
-use Rattle.forward.proofs.Sight.{seen_links, usable-every}
+use Rattle.forward.proofs.Sight.{seen_links, usable_every}
 use Rattle.promises.specs.Journeys.{Sound}
 use Rattle.promises.specs.EveryUp.{common, links_of, Delivered, AllDelivered}
-use Rattle.promises.proofs.Passing.{last_one, last_more, select_through, leaves, level_leaves, hop_none, hop-across, hop-near, passed_out, passed_on, passed_starts, passed_above}
+use Rattle.promises.proofs.Passing.{last_one, last_more, select_through, leaves, level_leaves, hop_none, hop_across, hop_near, passed_out, passed_on, passed_starts, passed_above}
 
 -- the table of a DCell(b) with every port up
 ones : Hall → List ℕ
@@ -95,9 +95,9 @@ module _ (h : Hall) (is_valid : valid h ≡ true) where
     abbrev cell : List ℕ
     cell = cell_part h lent
 
-    hop-onward : (x target : ℕ) → towards h cell x target ≡ onward h x target
+    hop_onward : (x target : ℕ) → towards h cell x target ≡ onward h x target
     unfolding ones
-    hop-onward x target = towards_agree h cell (ones h) known (all_up_agree h cell (ones h) all (all_up_table h)) x target
+    hop_onward x target = towards_agree h cell (ones h) known (all_up_agree h cell (ones h) all (all_up_table h)) x target
 
     -- one step towards y, of a packet without a proxy
     module _ (x : ℕ) (p : Packet) (here : x < servers h) (there : p.dst < servers h) where
@@ -106,43 +106,43 @@ module _ (h : Hall) (is_valid : valid h ≡ true) where
       in_reach target =
           ap not (ne_eqb _ none (all_up_reached h cell known all (place_of h target) (place_of h x) (place_fits h known target) (place_fits h known x)))
 
-      no-failure : {link : Crossing} → Fails h (seen h lent) x (cleared p) (cleared p) link → ⊥
+      no_failure : {link : Crossing} → Fails h (seen h lent) x (cleared p) (cleared p) link → ⊥
       unfolding goal
-      no-failure (unusable {n1 = n1} {m = m} e u) =
+      no_failure (unusable {n1 = n1} {m = m} e u) =
           let a = link_ahead h is_valid x p.dst here there e in
           never (every m (place_of h n1) (place_fits h known n1) (omega (arith, a.level, a.low)) (omega (arith, a.level, a.high))) u
-      no-failure (out-of-reach {target = target} t r w) = never (in_reach target) r
+      no_failure (out_of_reach {target = target} t r w) = never (in_reach target) r
 
-      nears-so : {link : Crossing} {target : ℕ} → Target h (seen h lent) x (cleared p) (cleared p) link target
+      nears_so : {link : Crossing} {target : ℕ} → Target h (seen h lent) x (cleared p) (cleared p) link target
           → towards h cell x target ≡ onwards h x p.dst
       unfolding goal
-      nears-so (the-goal e) =
-          hop-onward x p.dst ∙ sym (hop_none (onward h) h.n h.b h.k x p.dst (none_above h is_valid x p.dst here there e))
-      nears-so (the-near {n1 = n1} {n2 = n2} e u d) =
+      nears_so (the_goal e) =
+          hop_onward x p.dst ∙ sym (hop_none (onward h) h.n h.b h.k x p.dst (none_above h is_valid x p.dst here there e))
+      nears_so (the_near {n1 = n1} {n2 = n2} e u d) =
           let a = link_above h is_valid x p.dst here there e in
-          hop-onward x n1 ∙ sym (hop-near (onward h) h.n h.b h.k x p.dst n1 n2 a.0 a.1 d)
+          hop_onward x n1 ∙ sym (hop_near (onward h) h.n h.b h.k x p.dst n1 n2 a.0 a.1 d)
 
-      passes-onward : {o : Step} → Passes h (seen h lent) x (cleared p) (cleared p) false o → Onward h x p o
+      passes_onward : {o : Step} → Passes h (seen h lent) x (cleared p) (cleared p) false o → Onward h x p o
       unfolding goal towards
-      passes-onward (ends (nears t r)) = record { goes = refl; hops_so = nears-so t; not_rerouted = refl; as_before = refl }
-      passes-onward (ends (crosses {n1 = n1} {n2 = n2} e u q)) =
+      passes_onward (ends (nears t r)) = record { goes = refl; hops_so = nears_so t; not_rerouted = refl; as_before = refl }
+      passes_onward (ends (crosses {n1 = n1} {n2 = n2} e u q)) =
           let a = link_above h is_valid x p.dst here there e in
-          record { goes = refl; hops_so = sym (hop-across (onward h) h.n h.b h.k x p.dst n1 n2 a.0 a.1 q); not_rerouted = refl; as_before = refl }
-      passes-onward (ends (no_route_lem {target = target} t r w)) = never (in_reach target) r
-      passes-onward (ends (spent w l)) = absurd (no-failure w)
-      passes-onward (ends (no-proxy w l e)) = absurd (no-failure w)
-      passes-onward (clears w e t) = absurd (no-failure w)
-      passes-onward (sets w e g t) = absurd (no-failure w)
+          record { goes = refl; hops_so = sym (hop_across (onward h) h.n h.b h.k x p.dst n1 n2 a.0 a.1 q); not_rerouted = refl; as_before = refl }
+      passes_onward (ends (no_route_lem {target = target} t r w)) = never (in_reach target) r
+      passes_onward (ends (spent w l)) = absurd (no_failure w)
+      passes_onward (ends (no_proxy w l e)) = absurd (no_failure w)
+      passes_onward (clears w e t) = absurd (no_failure w)
+      passes_onward (sets w e g t) = absurd (no_failure w)
 
-      step-onward : (x ≡ p.dst → ⊥) → 0 < p.ttl → Onward h x p (step_on h (seen h lent) x (cleared p))
+      step_onward : (x ≡ p.dst → ⊥) → 0 < p.ttl → Onward h x p (step_on h (seen h lent) x (cleared p))
       unfolding is_arrived
-      step-onward ne l = go (step_ways h (seen h lent) x (cleared p))
+      step_onward ne l = go (step_ways h (seen h lent) x (cleared p))
         where
           go : {o : Step} → Steps h (seen h lent) x (cleared p) o → Onward h x p o
           go (delivers e) = absurd (ne e)
           go (dies d z) = absurd (omega arith)
           go (arrives d k a w) = never a refl
-          go (sets_out d k a w) = passes-onward w
+          go (sets_out d k a w) = passes_onward w
 
 -- the journey over a hall table whose every port is up
 module _ (h : Hall) (table : List ℕ) (is_valid : valid h ≡ true) (long : length table ≡ table_length h) (all : EveryUp table) where
@@ -156,8 +156,8 @@ module _ (h : Hall) (table : List ℕ) (is_valid : valid h ≡ true) (long : len
   cleared_step x p e = ap (step_on h (sight h table x) x) (tidied_none p e)
 
   step_goes : (x : ℕ) (p : Packet) → p.has_proxy ≡ false → x < servers h → p.dst < servers h → (x ≡ p.dst → ⊥) → 0 < p.ttl → Onward h x p (step_at h table x p)
-  step_goes x p e here there ne l = rw (cleared_step x p e) (step-onward h is_valid (step_table h table x) (part_up x here)
-      (λ i place k low high. usable-every h table x (known_there x here) i place k low high all) x p here there ne l)
+  step_goes x p e here there ne l = rw (cleared_step x p e) (step_onward h is_valid (step_table h table x) (part_up x here)
+      (λ i place k low high. usable_every h table x (known_there x here) i place k low high all) x p here there ne l)
 
   -- at dst the packet is delivered, and where its TTL is 0 it goes no further
   step_there : (x : ℕ) (p : Packet) → p.has_proxy ≡ false → x ≡ p.dst → ((step_at h table x p).ending ≡ delivered) × ((step_at h table x p).reroutes ≡ 0)
@@ -170,22 +170,22 @@ module _ (h : Hall) (table : List ℕ) (is_valid : valid h ≡ true) (long : len
 
   -- a journey passes the servers that the hops say, without a reroute, and is delivered where the last of them is dst
   record Goes (x : ℕ) (p : Packet) (j : Trip) : Type 0 where
-    uids-so : j.uids ≡ passes h p.ttl x p.dst
-    no-reroutes : j.reroutes ≡ 0
-    delivers-there : Last p.dst (passes h p.ttl x p.dst) → j.ending ≡ delivered
+    uids_so : j.uids ≡ passes h p.ttl x p.dst
+    no_reroutes : j.reroutes ≡ 0
+    delivers_there : Last p.dst (passes h p.ttl x p.dst) → j.ending ≡ delivered
 
   goes_last : (x : ℕ) (p : Packet) → p.has_proxy ≡ false → x < servers h → p.dst < servers h → ((step_at h table x p).ending ≡ forwarded → ⊥)
       → passes h p.ttl x p.dst ≡ x ∷ [] → Goes x p (ends_at x (step_at h table x p))
   goes_last x p e here there d w = cases (eqb x p.dst)
-      (λ q. let s = step_there x p e (eqb-true x p.dst q) in record { uids-so = sym w; no-reroutes = s.1; delivers-there = λ l. s.0 })
+      (λ q. let s = step_there x p e (eqb-true x p.dst q) in record { uids_so = sym w; no_reroutes = s.1; delivers_there = λ l. s.0 })
       (λ q.
       let ne = eqb-false x p.dst q in
       record {
-        uids-so = sym w;
-        no-reroutes = cases (eqb p.ttl 0)
+        uids_so = sym w;
+        no_reroutes = cases (eqb p.ttl 0)
             (λ z. step_out x p e ne (eqb-true p.ttl 0 z))
             (λ z. absurd (d (step_goes x p e here there ne (omega (arith, eqb-false p.ttl 0 z))).goes));
-        delivers-there = λ l. absurd (ne (last_one p.dst x (rw w at l)));
+        delivers_there = λ l. absurd (ne (last_one p.dst x (rw w at l)));
       })
 
   goes : {x : ℕ} {p : Packet} {j : Trip} → Travels h table x p j → p.has_proxy ≡ false → x < servers h → p.dst < servers h → Goes x p j
@@ -195,12 +195,12 @@ module _ (h : Hall) (table : List ℕ) (is_valid : valid h ≡ true) (long : len
       (λ q. cases (eqb p.ttl 0)
       (λ z. let w = eqb-true p.ttl 0 z in rw w (passed_out (onward h) h.n h.b h.k x p.dst))
       (λ z. absurd (d (step_goes x p e here there (eqb-false x p.dst q) (omega (arith, eqb-false p.ttl 0 z))).goes))))
-  goes {x} {p} (one-step {rest = rest} w further) e here there =
+  goes {x} {p} (one_step {rest = rest} w further) e here there =
       let o : Step = step_at h table x p in
       let sends = step_sends h table x p w in
       let ne : x ≡ p.dst → ⊥ = λ q. five (sym (step_there x p e q).0 ∙ w) in
       let g = step_goes x p e here there ne (omega (arith, sends.ttl)) in
-      let i = goes further (ap (λ (q : Packet). q.has_proxy) g.as_before) (next-in x p e here there w) (rw sends.dst there) in
+      let i = goes further (ap (λ (q : Packet). q.has_proxy) g.as_before) (next_in x p e here there w) (rw sends.dst there) in
       let m : passes h p.ttl x p.dst ≡ x ∷ passes h o.packet.ttl o.next o.packet.dst =
       ap (λ (f : ℕ). passes h f x p.dst) (sym sends.ttl ∙ add-one o.packet.ttl)
       ∙ passed_on (onward h) h.n h.b h.k o.packet.ttl x p.dst ne
@@ -208,22 +208,22 @@ module _ (h : Hall) (table : List ℕ) (is_valid : valid h ≡ true) (long : len
       ∙ ap (λ (y : ℕ). x ∷ passes h o.packet.ttl o.next y) (sym sends.dst) in
       let s = passed_starts (onward h) h.n h.b h.k o.packet.ttl o.next o.packet.dst in
       record {
-        uids-so = ap (λ (r : List ℕ). x ∷ r) i.uids-so ∙ sym m;
-        no-reroutes = omega (arith, g.not_rerouted, i.no-reroutes);
-        delivers-there = λ l.
+        uids_so = ap (λ (r : List ℕ). x ∷ r) i.uids_so ∙ sym m;
+        no_reroutes = omega (arith, g.not_rerouted, i.no_reroutes);
+        delivers_there = λ l.
             let a : Last p.dst (x ∷ (o.next ∷ s.0)) = rw (m, s.1) at l in
             let b = subst (λ (y : ℕ). Last y (o.next ∷ s.0)) (sym sends.dst) (last_more p.dst x o.next s.0 a) in
-            i.delivers-there (rw s.1 b);
+            i.delivers_there (rw s.1 b);
       }
     where
       five : delivered ≡ forwarded → ⊥
       five z = omega arith
 
-      next-in : (x : ℕ) (p : Packet) → p.has_proxy ≡ false → x < servers h → p.dst < servers h → (step_at h table x p).ending ≡ forwarded → (step_at h table x p).next < servers h
-      next-in x p e here there w =
+      next_in : (x : ℕ) (p : Packet) → p.has_proxy ≡ false → x < servers h → p.dst < servers h → (step_at h table x p).ending ≡ forwarded → (step_at h table x p).next < servers h
+      next_in x p e here there w =
           let f : Fits h (tidied p) = rw (tidied_none p e) (record { dst_in = there; proxy_in = λ q. never q refl }) in
           (step_forwards h (sight h table x) (λ y z. linked h (cell_part h (step_table h table x)) y z ≡ true) (seen_links h (step_table h table x) (valid_known h is_valid)) is_valid
-          x (tidied p) here f w).inside-hall
+          x (tidied p) here f w).inside_hall
 
 -- what is left to go at first is below 2 ^ (l + 1), l being the lowest level that holds both
 left_few : (h : Hall) (is_valid : valid h ≡ true) (x y : ℕ) → x < servers h → y < servers h
@@ -258,8 +258,8 @@ module _ (h : Hall) (table : List ℕ) (source : ℕ) (p : Packet) (s : Sound h 
   abbrev j : Trip
   j = trip h table source p
 
-  abbrev links-above : List (ℕ × ℕ)
-  links-above = above h.n h.b h.k source p.dst
+  abbrev links_above : List (ℕ × ℕ)
+  links_above = above h.n h.b h.k source p.dst
 
   holds : same h.n h.k source p.dst ≡ true
   unfolding servers
@@ -268,27 +268,27 @@ module _ (h : Hall) (table : List ℕ) (source : ℕ) (p : Packet) (s : Sound h 
   gone : Goes h table s.hall_valid s.table_long all source p j
   gone = goes h table s.hall_valid s.table_long all (trip_travels h table source p) bare s.source_in s.dst_in
 
-  few : left (remaining h) links-above source p.dst < 2 ^ suc (common h source p)
+  few : left (remaining h) links_above source p.dst < 2 ^ suc (common h source p)
   few = left_few h s.hall_valid source p.dst s.source_in s.dst_in
 
   -- the servers passed end at dst, over as many links as were left to go
-  arrived : (q : List ℕ) × (passes h p.ttl source p.dst ≡ q ++ (p.dst ∷ [])) × (length q ≡ left (remaining h) links-above source p.dst)
+  arrived : (q : List ℕ) × (passes h p.ttl source p.dst ≡ q ++ (p.dst ∷ [])) × (length q ≡ left (remaining h) links_above source p.dst)
   arrived = delivery.delivered h.n h.b h.k v.b_low (onward h) (remaining h) (all_local h s.hall_valid) p.ttl source p.dst holds (omega (arith, few))
 
-  links_left : j.links ≡ left (remaining h) links-above source p.dst
+  links_left : j.links ≡ left (remaining h) links_above source p.dst
   links_left =
       let a = arrived in
-      let e : length j.uids ≡ length a.0 + 1 = ap length (gone.uids-so ∙ a.1) ∙ length-append a.0 (p.dst ∷ []) in
+      let e : length j.uids ≡ length a.0 + 1 = ap length (gone.uids_so ∙ a.1) ∙ length-append a.0 (p.dst ∷ []) in
       omega (arith, links_counted h table (trip_travels h table source p), a.2)
 
   -- the links above b are the route's
-  crossed : select (leaves h.n h.b) (hops j.uids) ≡ links-above
+  crossed : select (leaves h.n h.b) (hops j.uids) ≡ links_above
   crossed =
       let a = arrived in
-      rw gone.uids-so
+      rw gone.uids_so
       (passed_above h.n (n_pos h v) h.b h.k v.b_low (onward h) (remaining h) (all_local h s.hall_valid) p.ttl source p.dst holds (a.0, a.1))
 
-  of_level_so : (i : ℕ) → h.b < i → links_of h table source p i ≡ select (of_level h.n i) links-above
+  of_level_so : (i : ℕ) → h.b < i → links_of h table source p i ≡ select (of_level h.n i) links_above
   of_level_so i l =
       sym (select_through (leaves h.n h.b) (of_level h.n i) (level_leaves h.n h.b i l) (hops j.uids))
       ∙ ap (select (of_level h.n i)) crossed
@@ -306,9 +306,9 @@ module _ (h : Hall) (table : List ℕ) (source : ℕ) (p : Packet) (s : Sound h 
   none_low (suc i) l low =
       let a = arrived in
       let z : common h source p ≡ 0 = omega (arith, v.b_high) in
-      let f : left (remaining h) links-above source p.dst < 2 ^ suc 0 = rw z at few in
+      let f : left (remaining h) links_above source p.dst < 2 ^ suc 0 = rw z at few in
       let r = passed_starts (onward h) h.n h.b h.k p.ttl source p.dst in
-      let u : j.uids ≡ source ∷ r.0 = gone.uids-so ∙ r.1 in
+      let u : j.uids ≡ source ∷ r.0 = gone.uids_so ∙ r.1 in
       let k = same_mono h.n {i = common h source p} {j = i} source p.dst (omega arith) (lowest_holds h.n h.k source p.dst holds) in
       ⊎_elim
       (λ e. ap (select (of_level h.n (suc i))) e ∙ select_none (of_level h.n (suc i)) [] tt)
@@ -319,8 +319,8 @@ module _ (h : Hall) (table : List ℕ) (source : ℕ) (p : Packet) (s : Sound h 
   delivered_all =
       let a = arrived in
       record {
-        is_delivered = gone.delivers-there (a.0, a.1);
-        at_dst = (a.0, gone.uids-so ∙ a.1);
+        is_delivered = gone.delivers_there (a.0, a.1);
+        at_dst = (a.0, gone.uids_so ∙ a.1);
         links_few = omega (arith, links_left, few);
         of_level_lem = λ i lo hi.
             rw (of_level_so i lo, above_lowest h.n h.b h.k source p.dst holds)
@@ -328,7 +328,7 @@ module _ (h : Hall) (table : List ℕ) (source : ℕ) (p : Packet) (s : Sound h 
         none_higher = λ i l. cases (leb h.b (common h source p))
             (λ q. none_high i l (leb-true h.b (common h source p) q))
             (λ q. none_low i l (leb-false h.b (common h source p) q));
-        no_reroute = gone.no-reroutes;
+        no_reroute = gone.no_reroutes;
       }
 
 -- in a full hall every code counts as it stands

@@ -15,23 +15,23 @@ use Rattle.ports.specs.Codes.{code_of, cell_length, table_length}
 use Rattle.ports.specs.Links.{joined}
 use Rattle.plan.specs.Answers.{fitted}
 use Rattle.counted.specs.Counted.{port_fitted, counted}
-use Rattle.counted.proofs.Counted.{counted-code, counted_full}
+use Rattle.counted.proofs.Counted.{counted_code, counted_full}
 use Rattle.counted.proofs.Links.{joined_hall, joined_fitted}
 use Rattle.local.specs.Local.{first_of}
 use Rattle.ends.specs.Tables.{cell_part, lent_counted}
 use Rattle.forward.specs.declared.Packet.{Packet}
 use Rattle.forward.specs.Packets.{forwarded}
 use Rattle.forward.specs.Journeys.{Trip, step_at, trip}
-use Rattle.forward.specs.Travels.{Travels, last_step, one-step}
+use Rattle.forward.specs.Travels.{Travels, last_step, one_step}
 use Rattle.forward.proofs.Links.{n_pos}
 use Rattle.forward.proofs.Trips.{trip_travels}
-use Rattle.broadcast.proofs.Fitted.{rounds-unfitted, rounds-local, rounds_front}
+use Rattle.broadcast.proofs.Fitted.{rounds_unfitted, rounds_local, rounds_front}
 use Rattle.promises.specs.Journeys.{Sound}
 use Rattle.promises.specs.Filling.{CodesCount, FullUnchanged, UsableFitted, FittedOnly, UnfittedStays, UnfittedAlone, LocalRounds, FrontRounds}
 use Rattle.promises.proofs.AnyCodes.{Stands, departs, stands_on, hops_usable, sound_counted}
 
 pub codes_count : CodesCount
-codes_count h table u port = let z : 0 + u ≡ u = omega arith in rw z at (counted-code h 0 table u port)
+codes_count h table u port = let z : 0 + u ≡ u = omega arith in rw z at (counted_code h 0 table u port)
 
 pub full_unchanged : FullUnchanged
 unfolding lent_counted cell_part
@@ -58,13 +58,13 @@ module _ (h : Hall) (table : List ℕ) (is_valid : valid h ≡ true) (long : len
       → (i : ℕ) → i < length j.uids → fitted h (get_or j.uids i 0) ≡ true
   uids_fitted (last_step d) k f zero l = f
   uids_fitted (last_step d) k f (suc i) l = absurd (omega arith)
-  uids_fitted (one-step e t) k f zero l = f
-  uids_fitted {me} {p} (one-step e t) k f (suc i) l =
+  uids_fitted (one_step e t) k f zero l = f
+  uids_fitted {me} {p} (one_step e t) k f (suc i) l =
       uids_fitted t (stands_on h T is_valid long me p k e) (hop_fitted me p k e).1 i (omega arith)
 
   stays_there : {me : ℕ} {p : Packet} {j : Trip} → Travels h T me p j → Stands h me p → fitted h me ≡ false → j.links ≡ 0
   stays_there (last_step d) k f = refl
-  stays_there {me} {p} (one-step e t) k f = never (hop_fitted me p k e).0 f
+  stays_there {me} {p} (one_step e t) k f = never (hop_fitted me p k e).0 f
 
 pub fitted_only : FittedOnly
 fitted_only h table source p s f =
@@ -77,10 +77,10 @@ unfitted_stays h table source p s f =
     stays_there h table c.hall_valid c.table_long (trip_travels h (counted h 0 table) source p) (departs h (counted h 0 table) source p c) f
 
 pub unfitted_alone : UnfittedAlone
-unfitted_alone h table source s v f e = rounds-unfitted h table source s v f e
+unfitted_alone h table source s v f e = rounds_unfitted h table source s v f e
 
 pub local_rounds : LocalRounds
-local_rounds h table source s v f low e = rounds-local h table source s v f low e
+local_rounds h table source s v f low e = rounds_local h table source s v f low e
 
 pub front_rounds : FrontRounds
 front_rounds h table source v b f e = rounds_front h table source v b f e

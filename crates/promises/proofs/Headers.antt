@@ -17,7 +17,7 @@ use Rattle.frame.proofs.Before.{as_before}
 use Rattle.header.specs.declared.Fields.{Fields}
 use Rattle.header.specs.Writing.{count_of, header_bytes, write_refusal, room_written, fields_of}
 use Rattle.header.proofs.Written.{write_accepted, room_begins, header_long}
-use Rattle.header.proofs.RoundTrip.{round_trip, round-trip-payload}
+use Rattle.header.proofs.RoundTrip.{round_trip, round_trip_payload}
 use Rattle.header.proofs.Encoding.{one_encoding, length_again, written_again}
 use Rattle.promises.specs.Headers.{frame_of, ReadsBack, RoundTrip, WritesBack, WrittenAgain, WrittenAsBefore}
 
@@ -43,7 +43,7 @@ header_round_trip fields room payload padding t e stated =
     let f = header_first fields rest (room_written fields room) w in
     record {
       same_fields = rw f (round_trip fields t a.0 a.1 payload padding stated);
-      same_payload = rw f (round-trip-payload fields t a.0 a.1 payload padding stated);
+      same_payload = rw f (round_trip_payload fields t a.0 a.1 payload padding stated);
       rest_kept = rw w (drop_at (header_bytes fields) rest (4 * count_of fields) (header_long fields));
     }
 

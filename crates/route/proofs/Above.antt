@@ -14,7 +14,7 @@ use Rattle.route.specs.Routes.{route, links, hops, above, of_level, select}
 use Rattle.combine.proofs.Tests.{cases}
 use Rattle.hall.proofs.Cells.{Crossing, crossing, same_left, same_up, same_mono, apart_mono, near_left, far_left}
 use Rattle.route.proofs.Lists.{each_append, each_map, select_append, select_keep, select_drop, select_none, select_select, append_not_nil}
-use Rattle.route.proofs.Routes.{Within, within_up, links-ind, links_hops}
+use Rattle.route.proofs.Routes.{Within, within_up, links_ind, links_hops}
 use Rattle.route.proofs.Counts.{links_of_level, pow_up}
 
 -- the clauses of above
@@ -41,7 +41,7 @@ module _ (n b : ℕ) where
 
   above_links : (l x y : ℕ) → same n l x y ≡ true → above n b l x y ≡ select leaves (links n l x y)
   unfolding above select leaves
-  above_links = links-ind n (λ l x y e. above n b l x y ≡ select leaves e)
+  above_links = links_ind n (λ l x y e. above n b l x y ≡ select leaves e)
       (λ x. refl)
       (λ x y e d. sym (select_drop leaves (x, y) [] (ap not (same_mono n x y (omega arith) e))))
       (λ j x y e s v ih. above_same n b j x y s ∙ ih)

@@ -125,22 +125,22 @@ module _ (h : Hall) (x y : ℕ) where
 
   -- as the code has it: the places filled in from the first on, and the place behind the last
   module _ (sizes : List ℕ) (G : Given h sizes) (hx : x < servers h) (hy : y < servers h) where
-    is-in-hall : route (per_switch sizes) h.k (0 + x) (0 + y) ≡ in_hall h x y
+    is_in_hall : route (per_switch sizes) h.k (0 + x) (0 + y) ≡ in_hall h x y
     unfolding in_hall
-    is-in-hall = rw (G.at_zero, zero-add x, zero-add y)
+    is_in_hall = rw (G.at_zero, zero-add x, zero-add y)
 
     pub next_fits : (next : ℕ) → next ≡ 0 + length (route (per_switch sizes) h.k (0 + x) (0 + y)) → (1 ≤ next) × (next ≤ longest)
     next_fits next e =
         let l = in_hall_length h x y G.known hx hy in
-        let n : next ≡ length (in_hall h x y) = e ∙ zero-add (length (route (per_switch sizes) h.k (0 + x) (0 + y))) ∙ ap length is-in-hall in
+        let n : next ≡ length (in_hall h x y) = e ∙ zero-add (length (route (per_switch sizes) h.k (0 + x) (0 + y))) ∙ ap length is_in_hall in
         omega arith
 
-    pub route-filled : (next : ℕ) (none uids : List ℕ) → next ≡ 0 + length (route (per_switch sizes) h.k (0 + x) (0 + y)) → none ≡ replicate longest 0
+    pub route_filled : (next : ℕ) (none uids : List ℕ) → next ≡ 0 + length (route (per_switch sizes) h.k (0 + x) (0 + y)) → none ≡ replicate longest 0
         → uids ≡ sets none 0 (route (per_switch sizes) h.k (0 + x) (0 + y)) → record { refusal = 0; links = next - 1; uids = uids } ≡ route_between h x y
-    route-filled next none uids e f g =
+    route_filled next none uids e f g =
         let l = in_hall_length h x y G.known hx hy in
-        let n : next ≡ length (in_hall h x y) = e ∙ zero-add (length (route (per_switch sizes) h.k (0 + x) (0 + y))) ∙ ap length is-in-hall in
-        let u : uids ≡ padded (in_hall h x y) = g ∙ rw (f, is-in-hall) (filled_in (in_hall h x y) l.1) in
+        let n : next ≡ length (in_hall h x y) = e ∙ zero-add (length (route (per_switch sizes) h.k (0 + x) (0 + y))) ∙ ap length is_in_hall in
+        let u : uids ≡ padded (in_hall h x y) = g ∙ rw (f, is_in_hall) (filled_in (in_hall h x y) l.1) in
         rw (n, u) (route_good G.sound hx hy)
 
   -- and of the first link

@@ -14,7 +14,7 @@ use Rattle.route.specs.Walks.{Each}
 use Rattle.combine.proofs.Tests.{cases}
 use Rattle.hall.proofs.Cells.{Crossing, apart_mono}
 use Rattle.route.proofs.Lists.{each_map, select_append, select_keep, select_drop, select_none, select_length}
-use Rattle.route.proofs.Routes.{Within, links-ind, links_hops}
+use Rattle.route.proofs.Routes.{Within, links_ind, links_hops}
 
 -- 2 ^ (l - i), a level up
 pub pow_up : (i j : ℕ) → i ≤ j → 2 ^ (suc j - i) ≡ 2 * 2 ^ (j - i)
@@ -43,7 +43,7 @@ module _ (n : ℕ) where
   top i j h f g = cases (leb i j) (λ q. f (leb-true i j q)) (λ q. let k = leb-false i j q in g (omega arith))
 
   pub links_of_level : (l x y : ℕ) → same n l x y ≡ true → (i : ℕ) → i ≤ l → length (select (of_level n i) (links n l x y)) ≤ 2 ^ (l - i)
-  links_of_level = links-ind n (λ l x y e. (i : ℕ) → i ≤ l → length (select (of_level n i) e) ≤ 2 ^ (l - i))
+  links_of_level = links_ind n (λ l x y e. (i : ℕ) → i ≤ l → length (select (of_level n i) e) ≤ 2 ^ (l - i))
       (λ x i h. omega (arith, select_length (of_level n i) []))
       (λ x y e d i h. omega (arith, select_length (of_level n i) ((x, y) ∷ []), pow_pos (0 - i)))
       (λ j x y e s v ih i h. top i j h

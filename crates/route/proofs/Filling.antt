@@ -101,41 +101,41 @@ module _ (S u : List ℕ) (level first from to at : ℕ) (I : Inside S level fir
 
   -- they are in two, with the ports out and in of the link between
   module _ (d : from / get_or S (level - 1) 0 ≡ to / get_or S (level - 1) 0 → ⊥) where
-    pub here-inside : (out : ℕ) → out ≡ port (from / get_or S (level - 1) 0) (to / get_or S (level - 1) 0)
+    pub here_inside : (out : ℕ) → out ≡ port (from / get_or S (level - 1) 0) (to / get_or S (level - 1) 0)
         → Inside S (level - 1) (first + from / get_or S (level - 1) 0 * get_or S (level - 1) 0) (from % get_or S (level - 1) 0) out
     unfolding P
-    here-inside out e = inside_below S level first from to I h (from / get_or S (level - 1) 0) (from % get_or S (level - 1) 0) out
+    here_inside out e = inside_below S level first from to I h (from / get_or S (level - 1) 0) (from % get_or S (level - 1) 0) out
         P.from_fits P.from_in
         (rw e (port_in S level first from to I h (from / get_or S (level - 1) 0) (to / get_or S (level - 1) 0) P.from_sub P.to_sub d))
 
-    pub there-inside : (in' : ℕ) → in' ≡ port (to / get_or S (level - 1) 0) (from / get_or S (level - 1) 0)
+    pub there_inside : (in' : ℕ) → in' ≡ port (to / get_or S (level - 1) 0) (from / get_or S (level - 1) 0)
         → Inside S (level - 1) (first + to / get_or S (level - 1) 0 * get_or S (level - 1) 0) in' (to % get_or S (level - 1) 0)
     unfolding P
-    there-inside in' e = inside_below S level first from to I h (to / get_or S (level - 1) 0) in' (to % get_or S (level - 1) 0)
+    there_inside in' e = inside_below S level first from to I h (to / get_or S (level - 1) 0) in' (to % get_or S (level - 1) 0)
         P.to_fits
         (rw e (port_in S level first from to I h (to / get_or S (level - 1) 0) (from / get_or S (level - 1) 0) P.to_sub P.from_sub (λ z. d (sym z))))
         P.to_in
 
     -- the room behind the first part
-    pub room-behind : (out m : ℕ) (v : List ℕ) → out ≡ port (from / get_or S (level - 1) 0) (to / get_or S (level - 1) 0)
+    pub room_behind : (out m : ℕ) (v : List ℕ) → out ≡ port (from / get_or S (level - 1) 0) (to / get_or S (level - 1) 0)
         → m ≡ at + length (route (per_switch S) (level - 1) (first + from / get_or S (level - 1) 0 * get_or S (level - 1) 0 + from % get_or S (level - 1) 0) (first + from / get_or S (level - 1) 0 * get_or S (level - 1) 0 + out))
         → v ≡ sets u at (route (per_switch S) (level - 1) (first + from / get_or S (level - 1) 0 * get_or S (level - 1) 0 + from % get_or S (level - 1) 0) (first + from / get_or S (level - 1) 0 * get_or S (level - 1) 0 + out))
         → Room v (level - 1) m
-    room-behind out m v e em ev =
+    room_behind out m v e em ev =
         let r : List ℕ = route (per_switch S) (level - 1) (first + from / get_or S (level - 1) 0 * get_or S (level - 1) 0 + from % get_or S (level - 1) 0) (first + from / get_or S (level - 1) 0 * get_or S (level - 1) 0 + out) in
-        let l = inside_length S (level - 1) (first + from / get_or S (level - 1) 0 * get_or S (level - 1) 0) (from % get_or S (level - 1) 0) out (here-inside out e) in
+        let l = inside_length S (level - 1) (first + from / get_or S (level - 1) 0 * get_or S (level - 1) 0) (from % get_or S (level - 1) 0) out (here_inside out e) in
         record {
           fits = omega (arith, R.fits, halves level h);
           clear = λ i g. ap (λ (w : List ℕ). get_or w i 0) ev ∙ get_d_sets u at r i (omega arith) ∙ R.clear i (omega arith);
         }
 
-    pub two-route : (out in' : ℕ) → out ≡ port (from / get_or S (level - 1) 0) (to / get_or S (level - 1) 0)
+    pub two_route : (out in' : ℕ) → out ≡ port (from / get_or S (level - 1) 0) (to / get_or S (level - 1) 0)
         → in' ≡ port (to / get_or S (level - 1) 0) (from / get_or S (level - 1) 0)
         → route (per_switch S) level (first + from) (first + to)
         ≡ route (per_switch S) (level - 1) (first + from / get_or S (level - 1) 0 * get_or S (level - 1) 0 + from % get_or S (level - 1) 0) (first + from / get_or S (level - 1) 0 * get_or S (level - 1) 0 + out)
         ++ route (per_switch S) (level - 1) (first + to / get_or S (level - 1) 0 * get_or S (level - 1) 0 + in') (first + to / get_or S (level - 1) 0 * get_or S (level - 1) 0 + to % get_or S (level - 1) 0)
     unfolding P
-    two-route out in' eo ei =
+    two_route out in' eo ei =
         ap (λ (k : ℕ). route (per_switch S) k (first + from) (first + to)) (down level h)
         ∙ route_apart (per_switch S) (level - 1) (first + from) (first + to) (P.two d)
         ∙ ap₂ (λ (r s : List ℕ). r ++ s)

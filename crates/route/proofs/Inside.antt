@@ -10,8 +10,8 @@ use lib.Arith.{digits_div}
 use lib.ListN.{get_or}
 use Rattle.combine.proofs.Tests.{cases}
 use Rattle.hall.specs.Cells.{t, cell, same, sub, port, near, far}
-use Rattle.hall.proofs.Place.{place_cell, place-sub, port_fits}
-use Rattle.hall.proofs.Cells.{same_eq, eq_same, end_cells, t-pos}
+use Rattle.hall.proofs.Place.{place_cell, place_sub, port_fits}
+use Rattle.hall.proofs.Cells.{same_eq, eq_same, end_cells, t_pos}
 use Rattle.route.specs.Filling.{per_switch, Inside}
 
 -- two places inside one DCell
@@ -50,40 +50,40 @@ module _ (n j number : ℕ) (pos : 0 < t n j) where
     unfolding t
     whole = ap (λ (k : ℕ). number * ((t n j + 1) * t n j) + k) (sym (div-add-mod' a (t n j)))
 
-    is-cell : cell n j (number * t n (suc j) + a) ≡ number * (t n j + 1) + a / t n j
+    is_cell : cell n j (number * t n (suc j) + a) ≡ number * (t n j + 1) + a / t n j
     unfolding cell
-    is-cell = ap (λ (k : ℕ). k / t n j) whole ∙ place_cell (t n j) number (a / t n j) (a % t n j) (mod-lt a pos)
+    is_cell = ap (λ (k : ℕ). k / t n j) whole ∙ place_cell (t n j) number (a / t n j) (a % t n j) (mod-lt a pos)
 
     is_up : cell n (suc j) (number * t n (suc j) + a) ≡ number
     unfolding cell
     is_up = digits_div number h
 
-    is-sub : sub n j (number * t n (suc j) + a) ≡ a / t n j
+    is_sub : sub n j (number * t n (suc j) + a) ≡ a / t n j
     unfolding sub
-    is-sub = ap (λ (k : ℕ). k % ((t n j + 1) * t n j) / t n j) whole ∙ place-sub (t n j) number (a / t n j) (a % t n j) (mod-lt a pos) sub_below
+    is_sub = ap (λ (k : ℕ). k % ((t n j + 1) * t n j) / t n j) whole ∙ place_sub (t n j) number (a / t n j) (a % t n j) (mod-lt a pos) sub_below
 
   -- two places
   module _ (a c : ℕ) (ha : a < t n (suc j)) (hc : c < t n (suc j)) where
     is_one : a / t n j ≡ c / t n j → same n j (number * t n (suc j) + a) (number * t n (suc j) + c) ≡ true
     is_one e = eq_same n j (number * t n (suc j) + a) (number * t n (suc j) + c)
-        (is-cell a ha ∙ ap (λ (k : ℕ). number * (t n j + 1) + k) e ∙ sym (is-cell c hc))
+        (is_cell a ha ∙ ap (λ (k : ℕ). number * (t n j + 1) + k) e ∙ sym (is_cell c hc))
 
-    is-two : (a / t n j ≡ c / t n j → ⊥) → same n j (number * t n (suc j) + a) (number * t n (suc j) + c) ≡ false
-    is-two d = cases (same n j (number * t n (suc j) + a) (number * t n (suc j) + c))
-        (λ k. let e = sym (is-cell a ha) ∙ same_eq n j (number * t n (suc j) + a) (number * t n (suc j) + c) k ∙ is-cell c hc in absurd (d (omega arith)))
+    is_two : (a / t n j ≡ c / t n j → ⊥) → same n j (number * t n (suc j) + a) (number * t n (suc j) + c) ≡ false
+    is_two d = cases (same n j (number * t n (suc j) + a) (number * t n (suc j) + c))
+        (λ k. let e = sym (is_cell a ha) ∙ same_eq n j (number * t n (suc j) + a) (number * t n (suc j) + c) k ∙ is_cell c hc in absurd (d (omega arith)))
         (λ k. k)
 
-    is-near : near n j (number * t n (suc j) + a) (number * t n (suc j) + c) ≡ number * t n (suc j) + a / t n j * t n j + port (a / t n j) (c / t n j)
+    is_near : near n j (number * t n (suc j) + a) (number * t n (suc j) + c) ≡ number * t n (suc j) + a / t n j * t n j + port (a / t n j) (c / t n j)
     unfolding near
-    is-near =
+    is_near =
         end_cells n j (number * t n (suc j) + a) (sub n j (number * t n (suc j) + a)) (sub n j (number * t n (suc j) + c))
-        ∙ rw (is_up a ha, is-sub a ha, is-sub c hc) (omega arith)
+        ∙ rw (is_up a ha, is_sub a ha, is_sub c hc) (omega arith)
 
-    is-far : far n j (number * t n (suc j) + a) (number * t n (suc j) + c) ≡ number * t n (suc j) + c / t n j * t n j + port (c / t n j) (a / t n j)
+    is_far : far n j (number * t n (suc j) + a) (number * t n (suc j) + c) ≡ number * t n (suc j) + c / t n j * t n j + port (c / t n j) (a / t n j)
     unfolding far
-    is-far =
+    is_far =
         end_cells n j (number * t n (suc j) + a) (sub n j (number * t n (suc j) + c)) (sub n j (number * t n (suc j) + a))
-        ∙ rw (is_up a ha, is-sub a ha, is-sub c hc) (omega arith)
+        ∙ rw (is_up a ha, is_sub a ha, is_sub c hc) (omega arith)
 
     parts : Parts n j (t n j) (number * t n (suc j)) a c
     parts = record {
@@ -97,9 +97,9 @@ module _ (n j number : ℕ) (pos : 0 < t n j) where
       to_fits = sub_fits c hc;
       up = inside_same n (suc j) number a c ha hc;
       one = is_one;
-      two = is-two;
-      near_is = is-near;
-      far_is = is-far;
+      two = is_two;
+      near_is = is_near;
+      far_is = is_far;
     }
 
 -- a level above 0 is one above the level below it
@@ -112,7 +112,7 @@ module _ (S : List ℕ) (level first from to : ℕ) (I : Inside S level first fr
   size_below = I.hall.sized (level - 1) (omega (arith, I.low))
 
   pub size_pos : 0 < get_or S (level - 1) 0
-  size_pos = rw size_below (t-pos (per_switch S) I.hall.positive (level - 1))
+  size_pos = rw size_below (t_pos (per_switch S) I.hall.positive (level - 1))
 
   t_level : t (per_switch S) level ≡ t (per_switch S) (suc (level - 1))
   t_level = ap (t (per_switch S)) (down level h)
@@ -121,7 +121,7 @@ module _ (S : List ℕ) (level first from to : ℕ) (I : Inside S level first fr
   parts_below =
       let e : first ≡ I.number * t (per_switch S) (suc (level - 1)) = I.starts ∙ ap (λ (k : ℕ). I.number * k) t_level in
       rw (size_below, e)
-      (parts (per_switch S) (level - 1) I.number (t-pos (per_switch S) I.hall.positive (level - 1)) from to
+      (parts (per_switch S) (level - 1) I.number (t_pos (per_switch S) I.hall.positive (level - 1)) from to
       (rw (← t_level) I.from_in) (rw (← t_level) I.to_in))
 
   -- the sub-cell p, and two places inside it

@@ -8,7 +8,7 @@ use native.Mathlib.Omega.{arith}
 use lib.Pow.{pow_pos}
 use lib.ListN.{length}
 use Rattle.hall.specs.Cells.{same, Joined, switch, link}
-use Rattle.hall.proofs.Cells.{same_refl, same_trans, same_mono, neighbour-stays}
+use Rattle.hall.proofs.Cells.{same_refl, same_trans, same_mono, neighbour_stays}
 use Rattle.route.specs.Routes.{route}
 use Rattle.route.specs.Walks.{Walk, done, step}
 use Rattle.route.specs.Delivery.{Local, Least, Toward, second}
@@ -22,14 +22,14 @@ module _ (n : ℕ) where
     -- a link of level at most l, and a walk, stay in a DCell of level l
     pub joined_same : {l u v : ℕ} → Joined n l u v → same n l u v ≡ true
     joined_same {l} {u} {v} (switch e d) = same_mono n u v (omega arith) e
-    joined_same {l} {u} {v} (link j h e) = same_mono n u v h (rw e at (neighbour-stays n pos j u))
+    joined_same {l} {u} {v} (link j h e) = same_mono n u v h (rw e at (neighbour_stays n pos j u))
 
     pub walk_same : {l x y : ℕ} {r : List ℕ} → Walk n l x y r → same n l x y ≡ true
     walk_same {l} {x} done = same_refl n l x
     walk_same {l} {x} {y} (step {z = z} e w) = same_trans n l x z y (joined_same e) (walk_same w)
 
-    pub local-of-least : (b : ℕ) (next d : ℕ → ℕ → ℕ) → Least n b d → Toward n b next d → Local n b next d
-    local-of-least b next d D N = record {
+    pub local_of_least : (b : ℕ) (next d : ℕ → ℕ → ℕ) → Least n b d → Toward n b next d → Local n b next d
+    local_of_least b next d D N = record {
       self = λ x. omega (arith, D.least x x (x ∷ []) done);
       stays = λ x y s ne. joined_same (N.crosses x y s ne);
       nearer = N.gains;
@@ -37,9 +37,9 @@ module _ (n : ℕ) where
     }
 
     -- a next hop is there
-    pub some-nearer : (b : ℕ) (d : ℕ → ℕ → ℕ) → Least n b d → (x y : ℕ) → same n b x y ≡ true → (x ≡ y → ⊥)
+    pub some_nearer : (b : ℕ) (d : ℕ → ℕ → ℕ) → Least n b d → (x y : ℕ) → same n b x y ≡ true → (x ≡ y → ⊥)
         → (z : ℕ) × Joined n b x z × (d z y + 1 ≡ d x y)
-    some-nearer b d D x y s ne = let w = D.reached x y s in first w.1 w.2 ne
+    some_nearer b d D x y s ne = let w = D.reached x y s in first w.1 w.2 ne
       where
         first : {x y : ℕ} {r : List ℕ} → Walk n b x y r → length r ≡ d x y + 1 → (x ≡ y → ⊥) → (z : ℕ) × Joined n b x z × (d z y + 1 ≡ d x y)
         first done q ne = absurd (ne refl)

@@ -9,7 +9,7 @@ use Rattle.hall.proofs.Cells.{Crossing, same_refl, same_sym, same_trans, same_up
 use Rattle.route.specs.Routes.{route}
 use Rattle.route.specs.Walks.{Each, Once}
 use Rattle.route.proofs.Lists.{each_append, each_map}
-use Rattle.route.proofs.Routes.{route-ind}
+use Rattle.route.proofs.Routes.{route_ind}
 
 -- a is no member
 abbrev pub Apart : List ℕ → ℕ → Type 0
@@ -35,7 +35,7 @@ module _ (n : ℕ) where
       c.apart) w) v
 
   pub route_once : (l x y : ℕ) → same n l x y ≡ true → Once (route n l x y)
-  route_once l x y s = (route-ind n (λ l x y r _. Each (In l x) r × Once r)
+  route_once l x y s = (route_ind n (λ l x y r _. Each (In l x) r × Once r)
       (λ x. ((same_refl n zero x, tt), (tt, tt)))
       (λ x y e d. ((same_refl n zero x, (e, tt)), ((d, tt), (tt, tt))))
       (λ j x y r _ e v. (each_map (In j x) (In (suc j) x) r (λ z. same_up n j x z) v.0, v.1))

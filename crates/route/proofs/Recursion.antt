@@ -13,7 +13,7 @@ use Rattle.route.specs.Routes.{route, links, hops, level_of, of_level, select, a
 use Rattle.route.specs.Walks.{Each, LinkOf}
 use Rattle.route.proofs.Lists.{each_append, each_map, select_none, hops_length, walk_starts, walk_ends}
 use Rattle.route.proofs.Lowest.{lowest_same, lowest_apart, lowest_zero, lowest_fits, lowest_holds, lowest_least}
-use Rattle.route.proofs.Routes.{Within, route_here, route_step, route_same, route_apart, route_walk, route_stays, route_length, links-ind, links_stay, links_hops}
+use Rattle.route.proofs.Routes.{Within, route_here, route_step, route_same, route_apart, route_walk, route_stays, route_length, links_ind, links_stay, links_hops}
 use Rattle.route.proofs.Counts.{not_above, route_of_level}
 use Rattle.route.proofs.Above.{above_same, above_length}
 
@@ -61,7 +61,7 @@ module _ (n : ℕ) where
   lowly_up j (k ∷ e) v w = (rw (lowest_same n j k.0 k.1 v.0) w.0, lowly_up j e v.1 w.1)
 
   links_lowly : (l x y : ℕ) → same n l x y ≡ true → Each (Lowly l) (links n l x y)
-  links_lowly = links-ind n (λ l x y e. Each (Lowly l) e)
+  links_lowly = links_ind n (λ l x y e. Each (Lowly l) e)
       (λ x. tt)
       (λ x y e d. (rw (lowest_zero n x y) (e, d), tt))
       (λ j x y e s v w. lowly_up j e v w)

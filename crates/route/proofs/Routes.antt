@@ -64,26 +64,26 @@ module _ (n : ℕ) where
       (lower : (j x y : ℕ) (r : List ℕ) (e : List (ℕ × ℕ)) → same n j x y ≡ true → Q j x y r e → Q (suc j) x y r e)
       (joined : (j x y : ℕ) (r s : List ℕ) (e f : List (ℕ × ℕ)) → Crossing n j x y
       → Q j x (near n j x y) r e → Q j (far n j x y) y s f → Q (suc j) x y (r ++ s) (e ++ ((near n j x y, far n j x y) ∷ f))) where
-    pub route-ind : (l x y : ℕ) → same n l x y ≡ true → Q l x y (route n l x y) (links n l x y)
-    route-ind zero x y e = cases (eqb x y)
+    pub route_ind : (l x y : ℕ) → same n l x y ≡ true → Q l x y (route n l x y) (links n l x y)
+    route_ind zero x y e = cases (eqb x y)
         (λ q. let h = eqb-true x y q in rw (← h, route_here, links_here) (here x))
         (λ q. let d = eqb-false x y q in rw (route_step n x y d, links_step n x y d) (crossed x y e d))
-    route-ind (suc j) x y e = cases (same n j x y)
-        (λ q. rw (route_same n j x y q, links_same n j x y q) (lower j x y (route n j x y) (links n j x y) q (route-ind j x y q)))
+    route_ind (suc j) x y e = cases (same n j x y)
+        (λ q. rw (route_same n j x y q, links_same n j x y q) (lower j x y (route n j x y) (links n j x y) q (route_ind j x y q)))
         (λ q. let c = crossing n j x y e q in
         rw (route_apart n j x y q, links_apart n j x y q)
-        (joined j x y _ _ _ _ c (route-ind j x (near n j x y) c.here) (route-ind j (far n j x y) y c.there)))
+        (joined j x y _ _ _ _ c (route_ind j x (near n j x y) c.here) (route_ind j (far n j x y) y c.there)))
 
   -- a route is a walk from x to y, stays in the DCell, and is short
   pub route_walk : (l x y : ℕ) → same n l x y ≡ true → Walk n l x y (route n l x y)
-  route_walk = route-ind (λ l x y r _. Walk n l x y r)
+  route_walk = route_ind (λ l x y r _. Walk n l x y r)
       (λ x. done)
       (λ x y e d. step (switch e d) done)
       (λ j x y r _ e w. walk_more n (omega arith) w)
       (λ j x y r s _ _ c v w. walk_append n (walk_more n (omega arith) v) (link j (omega arith) c.across) (walk_more n (omega arith) w))
 
   pub route_stays : (l x y : ℕ) → same n l x y ≡ true → Each (λ z. same n l x z ≡ true) (route n l x y)
-  route_stays = route-ind (λ l x y r _. Each (λ z. same n l x z ≡ true) r)
+  route_stays = route_ind (λ l x y r _. Each (λ z. same n l x z ≡ true) r)
       (λ x. (same_refl n zero x, tt))
       (λ x y e d. (same_refl n zero x, (e, tt)))
       (λ j x y r _ e v. each_map (λ z. same n j x z ≡ true) (λ z. same n (suc j) x z ≡ true) r (λ z. same_up n j x z) v)
@@ -93,7 +93,7 @@ module _ (n : ℕ) where
       (λ z k. same_trans n (suc j) x (far n j x y) z c.far_up (same_up n j (far n j x y) z k)) w))
 
   pub route_length : (l x y : ℕ) → same n l x y ≡ true → length (route n l x y) ≤ 2 ^ suc l
-  route_length = route-ind (λ l x y r _. length r ≤ 2 ^ suc l)
+  route_length = route_ind (λ l x y r _. length r ≤ 2 ^ suc l)
       (λ x. omega arith)
       (λ x y e d. omega arith)
       (λ j x y r _ e w. omega arith)
@@ -102,7 +102,7 @@ module _ (n : ℕ) where
   -- its links are the pairs of servers that follow each other, and stay
   pub links_hops : (l x y : ℕ) → same n l x y ≡ true → links n l x y ≡ hops (route n l x y)
   unfolding hops
-  links_hops l x y s = (route-ind (λ l x y r e. Walk n l x y r × (e ≡ hops r))
+  links_hops l x y s = (route_ind (λ l x y r e. Walk n l x y r × (e ≡ hops r))
       (λ x. (done, refl))
       (λ x y e d. (step (switch e d) done, refl))
       (λ j x y r _ e w. (walk_more n (omega arith) w.0, w.1))
@@ -113,7 +113,7 @@ module _ (n : ℕ) where
       (walk_append n v' m w', rw (v.1, w.1) (sym (hops_append n v' m w')))) l x y s).1
 
   pub links_stay : (l x y : ℕ) → same n l x y ≡ true → Each (Within n l) (links n l x y)
-  links_stay = route-ind (λ l x y r e. Each (Within n l) e)
+  links_stay = route_ind (λ l x y r e. Each (Within n l) e)
       (λ x. tt)
       (λ x y e d. (e, tt))
       (λ j x y r e s v. within_up j e v)
@@ -126,8 +126,8 @@ module _ (n : ℕ) where
       (lower : (j x y : ℕ) (e : List (ℕ × ℕ)) → same n j x y ≡ true → Each (Within n j) e → Q j x y e → Q (suc j) x y e)
       (joined : (j x y : ℕ) (e f : List (ℕ × ℕ)) → Crossing n j x y → Each (Within n j) e → Each (Within n j) f
       → Q j x (near n j x y) e → Q j (far n j x y) y f → Q (suc j) x y (e ++ ((near n j x y, far n j x y) ∷ f))) where
-    pub links-ind : (l x y : ℕ) → same n l x y ≡ true → Q l x y (links n l x y)
-    links-ind l x y s = (route-ind (λ l x y r e. Each (Within n l) e × Q l x y e)
+    pub links_ind : (l x y : ℕ) → same n l x y ≡ true → Q l x y (links n l x y)
+    links_ind l x y s = (route_ind (λ l x y r e. Each (Within n l) e × Q l x y e)
         (λ x. (tt, here x))
         (λ x y e d. ((e, tt), crossed x y e d))
         (λ j x y r e s v. (within_up j e v.0, lower j x y e s v.0 v.1))

@@ -52,8 +52,8 @@ module _ (S : List ℕ) (b k x y : ℕ) where
   }
 
   module _ (u v level first from to j : ℕ) (W : Search S b k x y u v level first from to j) where
-    pub search-ends : j ≤ b → found_by u v level ≡ first_above (per_switch S) b k x y
-    search-ends h = sym (head_low (per_switch S) k b j (first + from) (first + to) (found_by u v level) h) ∙ W.found
+    pub search_ends : j ≤ b → found_by u v level ≡ first_above (per_switch S) b k x y
+    search_ends h = sym (head_low (per_switch S) k b j (first + from) (first + to) (found_by u v level) h) ∙ W.found
 
     module _ (h : b < j) where
       above_zero : 0 < j
@@ -66,10 +66,10 @@ module _ (S : List ℕ) (b k x y : ℕ) where
       found = subst (λ (i : ℕ). head_or (per_switch S) k (above (per_switch S) b i (first + from) (first + to)) (found_by u v level) ≡ first_above (per_switch S) b k x y) (down j above_zero) W.found
 
       -- x and the goal are in one sub-cell
-      pub search-same : from / get_or S (j - 1) 0 ≡ to / get_or S (j - 1) 0
+      pub search_same : from / get_or S (j - 1) 0 ≡ to / get_or S (j - 1) 0
           → Search S b k x y u v level (first + from / get_or S (j - 1) 0 * get_or S (j - 1) 0) (from % get_or S (j - 1) 0) (to % get_or S (j - 1) 0) (j - 1)
       unfolding P
-      search-same e =
+      search_same e =
           let g : first + to ≡ first + from / get_or S (j - 1) 0 * get_or S (j - 1) 0 + to % get_or S (j - 1) 0
           = P.to_place ∙ ap (λ (i : ℕ). first + i * get_or S (j - 1) 0 + to % get_or S (j - 1) 0) (sym e) in
           record {
@@ -82,23 +82,23 @@ module _ (S : List ℕ) (b k x y : ℕ) where
           }
 
       -- the uids of the link's ends fit
-      pub ends-fit : (from / get_or S (j - 1) 0 ≡ to / get_or S (j - 1) 0 → ⊥)
+      pub ends_fit : (from / get_or S (j - 1) 0 ≡ to / get_or S (j - 1) 0 → ⊥)
           → (first + from / get_or S (j - 1) 0 * get_or S (j - 1) 0 + port (from / get_or S (j - 1) 0) (to / get_or S (j - 1) 0) < largest)
           × (first + to / get_or S (j - 1) 0 * get_or S (j - 1) 0 + port (to / get_or S (j - 1) 0) (from / get_or S (j - 1) 0) < largest)
       unfolding P
-      ends-fit d =
+      ends_fit d =
           let o = port_in S j first from to W.inside above_zero (from / get_or S (j - 1) 0) (to / get_or S (j - 1) 0) P.from_sub P.to_sub d in
           let i = port_in S j first from to W.inside above_zero (to / get_or S (j - 1) 0) (from / get_or S (j - 1) 0) P.to_sub P.from_sub (λ z. d (sym z)) in
           let e : t (per_switch S) j ≡ t (per_switch S) (suc (j - 1)) = ap (t (per_switch S)) (down j above_zero) in
           (omega (arith, W.inside.fits, P.from_fits), omega (arith, W.inside.fits, P.to_fits))
 
       -- they are in two: the link between them is found, and its near end is the goal
-      pub search-apart : (from / get_or S (j - 1) 0 ≡ to / get_or S (j - 1) 0 → ⊥) → (out in' : ℕ) → out ≡ port (from / get_or S (j - 1) 0) (to / get_or S (j - 1) 0)
+      pub search_apart : (from / get_or S (j - 1) 0 ≡ to / get_or S (j - 1) 0 → ⊥) → (out in' : ℕ) → out ≡ port (from / get_or S (j - 1) 0) (to / get_or S (j - 1) 0)
           → in' ≡ port (to / get_or S (j - 1) 0) (from / get_or S (j - 1) 0)
           → Search S b k x y (first + from / get_or S (j - 1) 0 * get_or S (j - 1) 0 + out) (first + to / get_or S (j - 1) 0 * get_or S (j - 1) 0 + in') (j - 1 + 1)
           (first + from / get_or S (j - 1) 0 * get_or S (j - 1) 0) (from % get_or S (j - 1) 0) out (j - 1)
       unfolding P
-      search-apart d out in' eo ei =
+      search_apart d out in' eo ei =
           let nw : near (per_switch S) (j - 1) (first + from) (first + to) ≡ first + from / get_or S (j - 1) 0 * get_or S (j - 1) 0 + out
           = P.near_is ∙ ap (λ (i : ℕ). first + from / get_or S (j - 1) 0 * get_or S (j - 1) 0 + i) (sym eo) in
           let fz : far (per_switch S) (j - 1) (first + from) (first + to) ≡ first + to / get_or S (j - 1) 0 * get_or S (j - 1) 0 + in'

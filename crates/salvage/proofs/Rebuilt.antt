@@ -138,11 +138,11 @@ module _ (s : List ℕ) (b : Bytes s) (head : HeadHeld s) where
     said : (writer_says (hall_in s) (codes_mended (hall_in s) s) (kept (hall_in s) s)).refusal ≡ 0
     said = ap (λ x. x.refusal) (writer_accepts (hall_in s) (codes_mended (hall_in s) s) (kept (hall_in s) s) short rebuilt_sound)
 
-    pub rebuilt-accepted : sheet_of (rebuilt (hall_in s) s) ≡ accepted_as (hall_in s) (length (kept (hall_in s) s))
-    rebuilt-accepted = reads_back (hall_in s) (codes_mended (hall_in s) s) (kept (hall_in s) s) kept_held said
+    pub rebuilt_accepted : sheet_of (rebuilt (hall_in s) s) ≡ accepted_as (hall_in s) (length (kept (hall_in s) s))
+    rebuilt_accepted = reads_back (hall_in s) (codes_mended (hall_in s) s) (kept (hall_in s) s) kept_held said
 
-    pub rebuilt-codes : codes_of (rebuilt (hall_in s) s) ≡ codes_mended (hall_in s) s
-    rebuilt-codes = codes_back (hall_in s) (codes_mended (hall_in s) s) (kept (hall_in s) s) kept_held said
+    pub rebuilt_codes : codes_of (rebuilt (hall_in s) s) ≡ codes_mended (hall_in s) s
+    rebuilt_codes = codes_back (hall_in s) (codes_mended (hall_in s) s) (kept (hall_in s) s) kept_held said
 
 -- no code becomes 1 that was not
 mended_one : (c : ℕ) → mended c ≡ 1 → c ≡ 1

@@ -14,12 +14,12 @@ use Rattle.sheet.specs.declared.Field.TheVariants.{Value, Refused}
 use Rattle.sheet.specs.Formats.{read}
 use Rattle.sheet.specs.Sheets.{longest}
 use Rattle.sheet.specs.Answers.{hall_in, sheet_of}
-use Rattle.sheet.proofs.Sheets.{sheet_long, sheet-refused}
+use Rattle.sheet.proofs.Sheets.{sheet_long, sheet_refused}
 use Rattle.sheet.proofs.Held.{accepted_holds}
 use Rattle.sheetparts.specs.Parts.{codes_of}
 use Rattle.words.specs.Words.{Bytes}
 use Rattle.salvage.specs.Salvage.{HeadHeld, head_sheet, codes_there, rebuilt, salvaged_as, salvage_says}
-use Rattle.salvage.proofs.Rebuilt.{head_held, head_refused, rebuilt-accepted, rebuilt-codes, no_new_up}
+use Rattle.salvage.proofs.Rebuilt.{head_held, head_refused, rebuilt_accepted, rebuilt_codes, no_new_up}
 use Rattle.salvage.proofs.Unchanged.{sound_head, sound_unchanged}
 
 -- what the salvage answers: of a sound sheet what the reader does, and the reader's own refusal of a first section or second count
@@ -29,7 +29,7 @@ module _ (s : List ℕ) (short : length s ≤ longest) where
   said_by = rw (le-ltb longest (length s) short)
 
   pub salvage_refused : (number place : ℕ) → read head_sheet s 0 ≡ Refused number place → salvage_says s ≡ sheet_of s
-  salvage_refused number place e = said_by ∙ rw e (sym (sheet-refused s short number place (head_refused s number place e)))
+  salvage_refused number place e = said_by ∙ rw e (sym (sheet_refused s short number place (head_refused s number place e)))
 
 pub salvage_long : (s : List ℕ) → longest < length s → salvage_says s ≡ sheet_of s
 unfolding salvage_says
@@ -53,7 +53,7 @@ module _ (s : List ℕ) (b : Bytes s) where
           let l = length (rebuilt (hall_in s) s) in
           cases (ltb longest l)
           (λ q. let z : ◌≡◌ {A = ℕ} 10 0 = rw (e, d, q) at ok in absurd (omega arith))
-          (λ q. rebuilt-accepted s b (head_held s v next d) (ltb-false longest l q) ∙ rw (e, d, q))
+          (λ q. rebuilt_accepted s b (head_held s v next d) (ltb-false longest l q) ∙ rw (e, d, q))
 
   -- a sound sheet is answered as the reader answers it
   pub salvaged_sound : (sheet_of s).refusal ≡ 0 → salvage_says s ≡ sheet_of s
@@ -65,7 +65,7 @@ module _ (s : List ℕ) (b : Bytes s) where
           let a = accepted_holds s ok in
           let u = sound_unchanged s b ok in
           let l : length (rebuilt (hall_in s) s) ≤ longest = rw u a.short in
-          said_by s a.short ∙ rw (d, le-ltb longest (length (rebuilt (hall_in s) s)) l) (sym (rebuilt-accepted s b (head_held s v next d) l) ∙ ap sheet_of u)
+          said_by s a.short ∙ rw (d, le-ltb longest (length (rebuilt (hall_in s) s)) l) (sym (rebuilt_accepted s b (head_held s v next d) l) ∙ ap sheet_of u)
 
   -- what is salvaged has a sound head, and is not too long
   pub said_head : (salvage_says s).refusal ≡ 0 → HeadHeld s × (length (rebuilt (hall_in s) s) ≤ longest)
@@ -91,4 +91,4 @@ module _ (s : List ℕ) (b : Bytes s) where
       → up (hall_in s) (codes_of (rebuilt (hall_in s) s)) server port ≡ true → up (hall_in s) (codes_there (hall_in s) s) server port ≡ true
   salvaged_no_new_up ok server port e =
       let a = said_head ok in
-      no_new_up (hall_in s) s server port (rw (rebuilt-codes s b a.0 a.1) at e)
+      no_new_up (hall_in s) s server port (rw (rebuilt_codes s b a.0 a.1) at e)

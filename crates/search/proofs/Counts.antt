@@ -114,20 +114,20 @@ module _ (none : ℕ) (old : List ℕ) where
 
   -- nobody from m on is reached: those before m are all to count
   module _ (m : ℕ) where
-    pub reached-front : (n : ℕ) → m ≤ n → ((v : ℕ) → m ≤ v → v < n → get_or old v 0 ≡ none) → reached_count none old n ≡ reached_count none old m
-    reached-front zero h f = let z : m ≡ 0 = omega arith in rw z
-    reached-front (suc n) h f =
+    pub reached_front : (n : ℕ) → m ≤ n → ((v : ℕ) → m ≤ v → v < n → get_or old v 0 ≡ none) → reached_count none old n ≡ reached_count none old m
+    reached_front zero h f = let z : m ≡ 0 = omega arith in rw z
+    reached_front (suc n) h f =
         ⊎_elim
         (λ q. rw q)
-        (λ l. rw (sym (add-one n)) (reached_skip n (f n (omega arith) (omega arith)) ∙ reached-front n (omega arith) (λ v i k. f v i (omega arith))))
+        (λ l. rw (sym (add-one n)) (reached_skip n (f n (omega arith) (omega arith)) ∙ reached_front n (omega arith) (λ v i k. f v i (omega arith))))
         (eq-or-lt_of_le h)
 
-    pub last-front : (n : ℕ) → m ≤ n → ((v : ℕ) → m ≤ v → v < n → get_or old v 0 ≡ none) → last_round none old n ≡ last_round none old m
-    last-front zero h f = let z : m ≡ 0 = omega arith in rw z
-    last-front (suc n) h f =
+    pub last_front : (n : ℕ) → m ≤ n → ((v : ℕ) → m ≤ v → v < n → get_or old v 0 ≡ none) → last_round none old n ≡ last_round none old m
+    last_front zero h f = let z : m ≡ 0 = omega arith in rw z
+    last_front (suc n) h f =
         ⊎_elim
         (λ q. rw q)
-        (λ l. rw (sym (add-one n)) (last_skip n (f n (omega arith) (omega arith)) ∙ last-front n (omega arith) (λ v i k. f v i (omega arith))))
+        (λ l. rw (sym (add-one n)) (last_skip n (f n (omega arith) (omega arith)) ∙ last_front n (omega arith) (λ v i k. f v i (omega arith))))
         (eq-or-lt_of_le h)
 
   pub last_reached : (n v : ℕ) → v < n → (get_or old v 0 ≡ none → ⊥) → InLast n

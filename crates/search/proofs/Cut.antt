@@ -16,7 +16,7 @@ use Rattle.search.specs.Rounds.{leads, new, start, marks, distances, reached_cou
 use Rattle.search.specs.Reach.{reach, Means, far, near}
 use Rattle.search.proofs.Rounds.{length-marks, round_still}
 use Rattle.search.proofs.Reach.{reach_more, reach_step}
-use Rattle.search.proofs.Distance.{distance-means, distance-only}
+use Rattle.search.proofs.Distance.{distance_means, distance_only}
 use Rattle.search.proofs.Counts.{reached_start, reached_skip, reached_more, last_start, last_skip, last_keep}
 
 -- before the first round: the origin alone
@@ -29,20 +29,20 @@ module _ (n none o : ℕ) (inside : o < n) where
 
   -- one is reached, in round 0
   module _ (some : 0 < none) where
-    reached-below : (m : ℕ) → m ≤ n → reached_count none (start n none o) m ≡ pick (ltb o m) 1 0
-    reached-below zero l = reached_start none (start n none o) ∙ rw (le-ltb o 0 (omega arith))
-    reached-below (suc m) l =
+    reached_below : (m : ℕ) → m ≤ n → reached_count none (start n none o) m ≡ pick (ltb o m) 1 0
+    reached_below zero l = reached_start none (start n none o) ∙ rw (le-ltb o 0 (omega arith))
+    reached_below (suc m) l =
         rw (sym (add-one m))
         (cases (eqb m o)
         (λ e.
         let q = eqb-true m o e in
         let z : get_or (start n none o) m 0 ≡ 0 = rw q start_origin in
         reached_more none (start n none o) m (λ k. absurd (omega (arith, k)))
-        ∙ rw (reached-below m (omega arith), le-ltb o m (omega arith), lt-ltb o (m + 1) (omega arith)))
+        ∙ rw (reached_below m (omega arith), le-ltb o m (omega arith), lt-ltb o (m + 1) (omega arith)))
         (λ e.
         let d = eqb-false m o e in
         reached_skip none (start n none o) m (start_other m (omega arith) d)
-        ∙ reached-below m (omega arith)
+        ∙ reached_below m (omega arith)
         ∙ ap (λ (b : Bool). pick b 1 0) (cases (ltb o m)
         (λ k. k ∙ sym (lt-ltb o (m + 1) (omega (arith, ltb-true o m k))))
         (λ k. k ∙ sym (le-ltb o (m + 1) (behind m d (ltb-false o m k)))))))
@@ -50,8 +50,8 @@ module _ (n none o : ℕ) (inside : o < n) where
         behind : (m : ℕ) → (m ≡ o → ⊥) → m ≤ o → m + 1 ≤ o
         behind m d l = cases (ltb m o) (λ k. omega (arith, ltb-true m o k)) (λ k. absurd (d (omega (arith, ltb-false m o k))))
 
-    pub reached-alone : reached_count none (start n none o) n ≡ 1
-    reached-alone = reached-below n (omega arith) ∙ rw (lt-ltb o n inside)
+    pub reached_alone : reached_count none (start n none o) n ≡ 1
+    reached_alone = reached_below n (omega arith) ∙ rw (lt-ltb o n inside)
 
     last_none : (m : ℕ) → m ≤ n → last_round none (start n none o) m ≡ 0
     last_none zero l = last_start none (start n none o)
@@ -64,8 +64,8 @@ module _ (n none o : ℕ) (inside : o < n) where
         last_keep none (start n none o) m (omega arith) ∙ last_none m (omega arith))
         (λ e. last_skip none (start n none o) m (start_other m (omega arith) (eqb-false m o e)) ∙ last_none m (omega arith)))
 
-    pub last-alone : last_round none (start n none o) n ≡ 0
-    last-alone = last_none n (omega arith)
+    pub last_alone : last_round none (start n none o) n ≡ 0
+    last_alone = last_none n (omega arith)
 
 -- NO LINK AT THE ORIGIN: THE ORIGIN ALONE
 module _ (adj : ℕ → ℕ → Bool) (n none o : ℕ) (inside : o < n) (small : n < none) (cut : (x : ℕ) → x < n → adj o x ≡ false) where
@@ -139,7 +139,7 @@ module _ (adj less : ℕ → ℕ → Bool) (n m none o : ℕ) (few : m ≤ n) (i
 
   module _ (small : n < none) where
     at_front : (v : ℕ) → v < m → get_or (distances less n none o) v 0 ≡ get_or (distances adj m none o) v 0
-    at_front v l = distance-only less n none small o (omega arith) v (get_or (distances adj m none o) v 0) (omega arith) (go (distance-means adj m none (omega arith) o inside v l))
+    at_front v l = distance_only less n none small o (omega arith) v (get_or (distances adj m none o) v 0) (omega arith) (go (distance_means adj m none (omega arith) o inside v l))
       where
         same : (r : ℕ) → reach less n o r v ≡ reach adj m o r v
         same r = reach_front r v (omega arith) ∙ rw (lt-ltb v m l)
@@ -149,7 +149,7 @@ module _ (adj less : ℕ → ℕ → Bool) (n m none o : ℕ) (few : m ≤ n) (i
         go (near e k) = near (omega arith) (record { reached = same (get_or (distances adj m none o) v 0) ∙ k.reached; sooner = λ r b. same r ∙ k.sooner r b })
 
     behind : (v : ℕ) → m ≤ v → v < n → get_or (distances less n none o) v 0 ≡ none
-    behind v l b = distance-only less n none small o (omega arith) v none b (far refl (λ r. reach_front r v b ∙ rw (le-ltb v m l)))
+    behind v l b = distance_only less n none small o (omega arith) v none b (far refl (λ r. reach_front r v b ∙ rw (le-ltb v m l)))
 
     tail : (v : ℕ) → m ≤ v → v < n → get_or (distances adj m none o ++ replicate (n - m) none) v 0 ≡ none
     tail v l b =
@@ -159,8 +159,8 @@ module _ (adj less : ℕ → ℕ → Bool) (n m none o : ℕ) (few : m ≤ n) (i
         ∙ get_or-append-add (distances adj m none o) (replicate (n - m) none) (v - m) 0
         ∙ get_or-replicate {A = ℕ} (n - m) (v - m) none 0 (omega arith)
 
-    pub distances-front : distances less n none o ≡ distances adj m none o ++ replicate (n - m) none
-    distances-front =
+    pub distances_front : distances less n none o ≡ distances adj m none o ++ replicate (n - m) none
+    distances_front =
         let a = length-marks less n none o n in
         let b = length-marks adj m none o m in
         let c = length-append (distances adj m none o) (replicate (n - m) none) in

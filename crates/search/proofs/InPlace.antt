@@ -15,7 +15,7 @@ use Rattle.combine.proofs.Tests.{cases, never, both_ways, either_cases, either_t
 use Rattle.combine.proofs.Lists.{length-up_to, up_to_cong, up_more, up_same}
 use Rattle.search.specs.Rounds.{new, mark}
 use Rattle.search.proofs.Filled.{filled_front, filled_behind}
-use Rattle.search.proofs.Rounds.{mark_new, mark_old, new_cong, in_place_reads, in-place-new}
+use Rattle.search.proofs.Rounds.{mark_new, mark_old, new_cong, in_place_reads, in_place_new}
 
 -- the marks filled up to x
 abbrev pub filled : (ℕ → ℕ → Bool) → ℕ → ℕ → ℕ → List ℕ → ℕ → List ℕ
@@ -24,24 +24,24 @@ filled adj n none r old x = up_to (mark adj n none r old) x ++ drop x old
 module _ (adj : ℕ → ℕ → Bool) (n none r : ℕ) (old : List ℕ) where
   -- the next server: new, and not
   module _ (small : r < none) (x : ℕ) (now : List ℕ) (o : Bool) (holds : now ≡ filled adj n none r old x) (says : o ≡ new adj n none r now x) (l : x < length old) where
-    says-old : o ≡ new adj n none r old x
-    says-old = says ∙ ap (λ (d : List ℕ). new adj n none r d x) holds ∙ in-place-new adj n none r old small x
+    says_old : o ≡ new adj n none r old x
+    says_old = says ∙ ap (λ (d : List ℕ). new adj n none r d x) holds ∙ in_place_new adj n none r old small x
 
-    pub fill-new : o ≡ true → set now x (r + 1) ≡ filled adj n none r old (x + 1)
-    fill-new e =
+    pub fill_new : o ≡ true → set now x (r + 1) ≡ filled adj n none r old (x + 1)
+    fill_new e =
         ap (λ (d : List ℕ). set d x (r + 1)) holds
-        ∙ ap (λ (k : ℕ). set (filled adj n none r old x) x k) (sym (mark_new adj n none r old x (sym says-old ∙ e)))
+        ∙ ap (λ (k : ℕ). set (filled adj n none r old x) x k) (sym (mark_new adj n none r old x (sym says_old ∙ e)))
         ∙ up_more (mark adj n none r old) old x l
 
-    pub fill-old : o ≡ false → now ≡ filled adj n none r old (x + 1)
-    fill-old e = holds ∙ up_same (mark adj n none r old) old x l (mark_old adj n none r old x (sym says-old ∙ e))
+    pub fill_old : o ≡ false → now ≡ filled adj n none r old (x + 1)
+    fill_old e = holds ∙ up_same (mark adj n none r old) old x l (mark_old adj n none r old x (sym says_old ∙ e))
 
     -- whether anybody is new so far, or was before
-    pub any-new : (a : Bool) → o ≡ true → true ≡ either a (any_below (new adj n none r old) (x + 1))
-    any-new a e = rw (any_in (new adj n none r old) (x + 1) x (omega arith) (sym says-old ∙ e)) (sym (either_true a))
+    pub any_new : (a : Bool) → o ≡ true → true ≡ either a (any_below (new adj n none r old) (x + 1))
+    any_new a e = rw (any_in (new adj n none r old) (x + 1) x (omega arith) (sym says_old ∙ e)) (sym (either_true a))
 
-    pub any-old : (a b : Bool) → b ≡ either a (any_below (new adj n none r old) x) → o ≡ false → b ≡ either a (any_below (new adj n none r old) (x + 1))
-    any-old a b q e = q ∙ ap (λ (k : Bool). either a k) (any_miss (new adj n none r old) x (sym says-old ∙ e))
+    pub any_old : (a b : Bool) → b ≡ either a (any_below (new adj n none r old) x) → o ≡ false → b ≡ either a (any_below (new adj n none r old) (x + 1))
+    any_old a b q e = q ∙ ap (λ (k : Bool). either a k) (any_miss (new adj n none r old) x (sym says_old ∙ e))
 
   -- from the marks filled up to x on
   module _ (small : suc r < none) (x : ℕ) where
@@ -63,22 +63,22 @@ module _ (adj : ℕ → ℕ → Bool) (n none r : ℕ) (old : List ℕ) where
         (λ z i. in_place_reads adj n none r old (omega arith) x z)
         ∙ e)
 
-    pub none-again : any_below (new adj n none r (filled adj n none r old x)) x ≡ false
-    none-again =
+    pub none_again : any_below (new adj n none r (filled adj n none r old x)) x ≡ false
+    none_again =
         cases (any_below (new adj n none r (filled adj n none r old x)) x)
         (λ q. let k = any_some (new adj n none r (filled adj n none r old x)) x q in never k.2 (done k.0 k.1))
         (λ q. q)
 
-    mark-again : (y : ℕ) → mark adj n none r (filled adj n none r old x) y ≡ mark adj n none r old y
+    mark_again : (y : ℕ) → mark adj n none r (filled adj n none r old x) y ≡ mark adj n none r old y
     unfolding mark
-    mark-again y =
+    mark_again y =
         cases (ltb y x)
         (λ q. let h = ltb-true y x q in mark_old adj n none r (filled adj n none r old x) y (done y h) ∙ filled_front (mark adj n none r old) old x y h)
         (λ q. let h = ltb-false y x q in rw (later y h, filled_behind (mark adj n none r old) old x y h))
 
     pub fill_on : (z : ℕ) → x ≤ z → filled adj n none r (filled adj n none r old x) z ≡ filled adj n none r old z
     fill_on z h =
-        let a : up_to (mark adj n none r (filled adj n none r old x)) z ≡ up_to (mark adj n none r old) z = up_to_cong _ _ z (λ y i. mark-again y) in
+        let a : up_to (mark adj n none r (filled adj n none r old x)) z ≡ up_to (mark adj n none r old) z = up_to_cong _ _ z (λ y i. mark_again y) in
         let e : length (up_to (mark adj n none r old) x) + (z - x) ≡ z = omega (arith, length-up_to (mark adj n none r old) x) in
         let k : x + (z - x) ≡ z = omega arith in
         let b : drop z (filled adj n none r old x) ≡ drop z old =
@@ -88,9 +88,9 @@ module _ (adj : ℕ → ℕ → Bool) (n none r : ℕ) (old : List ℕ) where
         ∙ ap (λ (i : ℕ). drop i old) k in
         rw (a, b)
 
-    pub any-on : (z : ℕ) → x ≤ z
+    pub any_on : (z : ℕ) → x ≤ z
         → either (any_below (new adj n none r old) x) (any_below (new adj n none r (filled adj n none r old x)) z) ≡ any_below (new adj n none r old) z
-    any-on z h =
+    any_on z h =
         both_ways _ _
         (λ e.
         either_cases (any_below (new adj n none r old) x) (any_below (new adj n none r (filled adj n none r old x)) z) e

@@ -65,10 +65,10 @@ module _ (adj : ℕ → ℕ → Bool) (n none o : ℕ) where
       (reached (omega arith) (record { reached = reach_origin adj n o; sooner = λ j p. absurd (omega arith) })))
       (λ e.
       rw (get_or-set_other {A = ℕ} (replicate n none) o v 0 0 (eqb-false v o e), get_or-replicate {A = ℕ} n v none 0 i)
-      (unreached refl (not-origin e)))
+      (unreached refl (not_origin e)))
     where
-      not-origin : eqb v o ≡ false → reach adj n o 0 v ≡ false
-      not-origin e = e
+      not_origin : eqb v o ≡ false → reach adj n o 0 v ≡ false
+      not_origin e = e
 
   -- before every round
   pub marks_right : o < n → (r : ℕ) → r < none → (v : ℕ) → v < n → SoFar adj n none o r v (get_or (marks adj n none o r) v 0)

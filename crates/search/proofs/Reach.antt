@@ -77,18 +77,18 @@ module _ (adj : ℕ → ℕ → Bool) (n : ℕ) where
 
   -- turned round
   module _ (turns : Symmetric adj n) where
-    pub reach-back-again : (o r v : ℕ) → o < n → v < n → reach adj n o r v ≡ true → reach adj n v r o ≡ true
-    reach-back-again o zero v h i e = let q : v ≡ o = reach_none o v e in rw q (reach_origin o)
-    reach-back-again o (suc r) v h i e =
+    pub reach_back_again : (o r v : ℕ) → o < n → v < n → reach adj n o r v ≡ true → reach adj n v r o ≡ true
+    reach_back_again o zero v h i e = let q : v ≡ o = reach_none o v e in rw q (reach_origin o)
+    reach_back_again o (suc r) v h i e =
         ⊎_elim
-        (λ q. reach_more v r (suc r) o (omega arith) (reach-back-again o r v h i q))
+        (λ q. reach_more v r (suc r) o (omega arith) (reach_back_again o r v h i q))
         (λ (k : LastLink o r v).
         let w : 1 + r ≡ suc r = omega arith in
-        rw (sym w) (reach_join v 1 k.0 r o (reach_link v k.0 i (turns v k.0 i k.1 ∙ k.3)) (reach-back-again o r k.0 h k.1 k.2)))
+        rw (sym w) (reach_join v 1 k.0 r o (reach_link v k.0 i (turns v k.0 i k.1 ∙ k.3)) (reach_back_again o r k.0 h k.1 k.2)))
         (reach_back o r v e)
 
-    pub reach-symmetric : (o r v : ℕ) → o < n → v < n → reach adj n o r v ≡ reach adj n v r o
-    reach-symmetric o r v h i = both_ways _ _ (reach-back-again o r v h i) (reach-back-again v r o i h)
+    pub reach_symmetric : (o r v : ℕ) → o < n → v < n → reach adj n o r v ≡ reach adj n v r o
+    reach_symmetric o r v h i = both_ways _ _ (reach_back_again o r v h i) (reach_back_again v r o i h)
 
 -- two adjacencies that agree reach the same
 pub reach_agree : (a b : ℕ → ℕ → Bool) (n o r v : ℕ) → Agree a b n → v < n → reach a n o r v ≡ reach b n o r v

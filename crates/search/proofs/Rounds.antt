@@ -70,27 +70,27 @@ module _ (adj : ℕ → ℕ → Bool) (n none : ℕ) where
             (λ e. rw (mark_new r old y e, new_none r old y e, lt-leb (r + 1) r (omega arith)) (sym (lt-leb none r small)))
             (λ e. ap (λ (k : ℕ). leb k r) (mark_old r old y e))
 
-    pub in-place-old : (x : ℕ) → get_or (up_to (mark adj n none r old) x ++ drop x old) x 0 ≡ get_or old x 0
-    in-place-old x = filled_behind (mark adj n none r old) old x x (omega arith)
+    pub in_place_old : (x : ℕ) → get_or (up_to (mark adj n none r old) x ++ drop x old) x 0 ≡ get_or old x 0
+    in_place_old x = filled_behind (mark adj n none r old) old x x (omega arith)
 
-    pub in-place-new : (x : ℕ) → new adj n none r (up_to (mark adj n none r old) x ++ drop x old) x ≡ new adj n none r old x
-    in-place-new x = new_cong r (up_to (mark adj n none r old) x ++ drop x old) old x (in-place-old x) (λ y h. in_place_reads x y)
+    pub in_place_new : (x : ℕ) → new adj n none r (up_to (mark adj n none r old) x ++ drop x old) x ≡ new adj n none r old x
+    in_place_new x = new_cong r (up_to (mark adj n none r old) x ++ drop x old) old x (in_place_old x) (λ y h. in_place_reads x y)
 
   -- a list with more behind the n servers
   module _ (old tail : List ℕ) (long : length old ≡ n) where
     tail_at : (y : ℕ) → y < n → get_or (old ++ tail) y 0 ≡ get_or old y 0
     tail_at y h = get_or-append old tail 0 y (omega arith)
 
-    pub tail-new : (r x : ℕ) → x < n → new adj n none r (old ++ tail) x ≡ new adj n none r old x
-    tail-new r x h = new_cong r (old ++ tail) old x (tail_at x h) (λ y i. ap (λ (k : ℕ). leb k r) (tail_at y i))
+    pub tail_new : (r x : ℕ) → x < n → new adj n none r (old ++ tail) x ≡ new adj n none r old x
+    tail_new r x h = new_cong r (old ++ tail) old x (tail_at x h) (λ y i. ap (λ (k : ℕ). leb k r) (tail_at y i))
 
-    tail-mark : (r x : ℕ) → x < n → mark adj n none r (old ++ tail) x ≡ mark adj n none r old x
+    tail_mark : (r x : ℕ) → x < n → mark adj n none r (old ++ tail) x ≡ mark adj n none r old x
     unfolding mark
-    tail-mark r x h = rw (tail-new r x h, tail_at x h)
+    tail_mark r x h = rw (tail_new r x h, tail_at x h)
 
-    pub tail-round : (r : ℕ) → round adj n none r (old ++ tail) ≡ round adj n none r old ++ tail
-    tail-round r =
-        let a : up_to (mark adj n none r (old ++ tail)) n ≡ up_to (mark adj n none r old) n = up_to_cong _ _ n (λ x h. tail-mark r x h) in
+    pub tail_round : (r : ℕ) → round adj n none r (old ++ tail) ≡ round adj n none r old ++ tail
+    tail_round r =
+        let a : up_to (mark adj n none r (old ++ tail)) n ≡ up_to (mark adj n none r old) n = up_to_cong _ _ n (λ x h. tail_mark r x h) in
         let b : drop n (old ++ tail) ≡ tail = drop_at old tail n long in
         let c : drop n old ≡ [] = drop_all in
         rw (a, b, c) (ap (λ (l : List ℕ). l ++ tail) (sym (append-nil (up_to (mark adj n none r old) n))))
@@ -98,8 +98,8 @@ module _ (adj : ℕ → ℕ → Bool) (n none : ℕ) where
         drop_all : drop n old ≡ []
         drop_all = drop_of_length-le old {i = n} (omega arith)
 
-    pub tail-any : (r : ℕ) → any_below (new adj n none r (old ++ tail)) n ≡ any_below (new adj n none r old) n
-    tail-any r = any_cong _ _ n (λ x h. tail-new r x h)
+    pub tail_any : (r : ℕ) → any_below (new adj n none r (old ++ tail)) n ≡ any_below (new adj n none r old) n
+    tail_any r = any_cong _ _ n (λ x h. tail_new r x h)
 
   -- before the first round, with more places than servers
   pub start_tail : (size o : ℕ) → o < n → n ≤ size → start size none o ≡ start n none o ++ replicate (size - n) none

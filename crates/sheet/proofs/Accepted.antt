@@ -13,7 +13,7 @@ use Rattle.sheet.specs.declared.Field.TheVariants.{Value, Refused}
 use Rattle.words.specs.Words.{value}
 use Rattle.sheet.specs.Formats.{Format, done, field, and_then, read}
 use Rattle.sheet.specs.Sheets.{retry, times, packet}
-use Rattle.sheet.proofs.Reading.{onward, read_done, read_sound, read_wrong, read_cut, read-cases, read_then, field_read, then_value, any_there, times_none}
+use Rattle.sheet.proofs.Reading.{onward, read_done, read_sound, read_wrong, read_cut, read_cases, read_then, field_read, then_value, any_there, times_none}
 
 -- a format behind another that was read to its end: so was each
 onward_value : (r : Field) (k : ℕ → ℕ → Field) (v next : ℕ) → onward r k ≡ Value v next
@@ -31,7 +31,7 @@ pub field_then : (width : ℕ) (sound : ℕ → Bool) (number : ℕ) (g : ℕ �
     → (at + width ≤ length s) × (sound (value s at width) ≡ true) × (read (g (value s at width)) s (at + width) ≡ Value v next)
 unfolding and_then
 field_then width sound number g s at v next e =
-    read-cases s width sound number g at
+    read_cases s width sound number g at
     (λ h t. (h, t, sym (read_sound s width sound number g at h t) ∙ e))
     (λ h t. let q : Refused number at ≡ Value v next = sym (read_wrong s width sound number g at h t) ∙ e in
     let z : ◌≡◌ {A = ℕ} 0 1 = cc q in absurd (omega arith))

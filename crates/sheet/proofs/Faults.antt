@@ -17,8 +17,8 @@ use Rattle.sheet.specs.Formats.{Format, done, field, read}
 use Rattle.sheet.specs.Sheets.{longest, night_sheet}
 use Rattle.sheet.specs.Answers.{refused_at, sheet_of}
 use Rattle.sheet.specs.Faults.{Reached, here, behind, First, wrong, cut, ended}
-use Rattle.sheet.proofs.Reading.{place_of, read_done, read_sound, read_wrong, read_cut, read-cases, within}
-use Rattle.sheet.proofs.Sheets.{sheet_long, sheet-refused, sheet-surplus, sheet-accepted}
+use Rattle.sheet.proofs.Reading.{place_of, read_done, read_sound, read_wrong, read_cut, read_cases, within}
+use Rattle.sheet.proofs.Sheets.{sheet_long, sheet_refused, sheet_surplus, sheet_accepted}
 
 -- reading goes on from where it has got to
 pub reached_read : {s : List ℕ} {f g : Format} {a p : ℕ} → Reached s f a g p → read f s a ≡ read g s p
@@ -41,7 +41,7 @@ further h e (ended r) = ended (behind h e r)
 pub first : (f : Format) (s : List ℕ) (a : ℕ) → First s f a
 first (done v) s a = ended here
 first (field width sound number next) s a =
-    read-cases s width sound number next a
+    read_cases s width sound number next a
     (λ h e. further h e (first (next (value s a width)) s (a + width)))
     (λ h e. wrong here h e)
     (λ h. cut here h)
@@ -72,40 +72,40 @@ take_alike s t n i e h = sym (get_or-take n s i 0 h) ∙ ap (λ (l : List ℕ). 
 module _ (s : List ℕ) (short : length s ≤ longest) where
   module _ {width number p : ℕ} {sound : ℕ → Bool} {next : ℕ → Format} (r : Reached s night_sheet 0 (field width sound number next) p) where
     -- the first field that is whole and wrong is told, at its first byte
-    pub wrong-decides : p + width ≤ length s → sound (value s p width) ≡ false → sheet_of s ≡ refused_at number p
-    wrong-decides h e = sheet-refused s short number p (reached_read r ∙ read_wrong s width sound number next p h e)
+    pub wrong_decides : p + width ≤ length s → sound (value s p width) ≡ false → sheet_of s ≡ refused_at number p
+    wrong_decides h e = sheet_refused s short number p (reached_read r ∙ read_wrong s width sound number next p h e)
 
     -- the first field that is not whole is a cut, told at the sheet's length
-    pub cut-decides : length s < p + width → sheet_of s ≡ refused_at bad_sheet (length s)
-    cut-decides h = sheet-refused s short bad_sheet (length s) (reached_read r ∙ read_cut s width sound number next p h)
+    pub cut_decides : length s < p + width → sheet_of s ≡ refused_at bad_sheet (length s)
+    cut_decides h = sheet_refused s short bad_sheet (length s) (reached_read r ∙ read_cut s width sound number next p h)
 
     -- a refusal at a field depends only on the bytes up to that field's end
-    pub wrong-depends : p + width ≤ length s → sound (value s p width) ≡ false
+    pub wrong_depends : p + width ≤ length s → sound (value s p width) ≡ false
         → (t : List ℕ) → length t ≤ longest → take (p + width) t ≡ take (p + width) s → sheet_of t ≡ refused_at number p
-    wrong-depends h e t l same =
+    wrong_depends h e t l same =
         let long = take_long s t (p + width) same h in
         let there : Reached t night_sheet 0 (field width sound number next) p =
         reached_alike t r (λ i b. take_alike s t (p + width) i same (omega arith)) (omega arith) in
         let v = value_alike s t p width (p + width) (omega arith) (λ i b. take_alike s t (p + width) i same b) in
-        sheet-refused t l number p (reached_read there ∙ read_wrong t width sound number next p long (ap sound (sym v) ∙ e))
+        sheet_refused t l number p (reached_read there ∙ read_wrong t width sound number next p long (ap sound (sym v) ∙ e))
 
   module _ {v p : ℕ} (r : Reached s night_sheet 0 (done v) p) where
     whole : read night_sheet s 0 ≡ Value v p
     whole = reached_read r ∙ read_done v s p
 
     -- bytes behind the last field are a surplus, told at the first of them
-    pub surplus-decides : p < length s → sheet_of s ≡ refused_at bad_sheet p
-    surplus-decides h = sheet-surplus s short v p whole h
+    pub surplus_decides : p < length s → sheet_of s ≡ refused_at bad_sheet p
+    surplus_decides h = sheet_surplus s short v p whole h
 
-    pub surplus-depends : p < length s → (t : List ℕ) → length t ≤ longest → take (p + 1) t ≡ take (p + 1) s → sheet_of t ≡ refused_at bad_sheet p
-    surplus-depends h t l same =
+    pub surplus_depends : p < length s → (t : List ℕ) → length t ≤ longest → take (p + 1) t ≡ take (p + 1) s → sheet_of t ≡ refused_at bad_sheet p
+    surplus_depends h t l same =
         let long = take_long s t (p + 1) same (omega arith) in
         let there : Reached t night_sheet 0 (done v) p = reached_alike t r (λ i b. take_alike s t (p + 1) i same (omega arith)) (omega arith) in
-        sheet-surplus t l v p (reached_read there ∙ read_done v t p) (omega arith)
+        sheet_surplus t l v p (reached_read there ∙ read_done v t p) (omega arith)
 
     -- no fault at all
-    pub all-decides : p ≡ length s → (sheet_of s).refusal ≡ 0
-    all-decides h = ap (λ x. x.refusal) (sheet-accepted s short v p whole (omega arith))
+    pub all_decides : p ≡ length s → (sheet_of s).refusal ≡ 0
+    all_decides h = ap (λ x. x.refusal) (sheet_accepted s short v p whole (omega arith))
 
 -- a place is within the sheet, or 65,536 where it is longer
 pub place_within : (s : List ℕ) → (sheet_of s).place ≤ length s
@@ -117,8 +117,8 @@ place_within s =
     by : (s : List ℕ) → length s ≤ longest → (r : Field) → read night_sheet s 0 ≡ r → (sheet_of s).place ≤ length s
     by s h (Refused number place) e =
         let w = (within night_sheet s 0 (omega arith)).1 in
-        omega (arith, ap place_of e, ap (λ x. x.place) (sheet-refused s h number place e))
+        omega (arith, ap place_of e, ap (λ x. x.place) (sheet_refused s h number place e))
     by s h (Value v end) e =
         cases (ltb end (length s))
-        (λ q. omega (arith, ltb-true end (length s) q, ap (λ x. x.place) (sheet-surplus s h v end e (ltb-true end (length s) q))))
-        (λ q. omega (arith, ap (λ x. x.place) (sheet-accepted s h v end e (ltb-false end (length s) q))))
+        (λ q. omega (arith, ltb-true end (length s) q, ap (λ x. x.place) (sheet_surplus s h v end e (ltb-true end (length s) q))))
+        (λ q. omega (arith, ap (λ x. x.place) (sheet_accepted s h v end e (ltb-false end (length s) q))))

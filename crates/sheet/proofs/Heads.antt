@@ -152,8 +152,8 @@ module _ (s : List ℕ) where
   -- a sound first section is passed
   module _ (head : Head s) where
     -- its first count tells whether the hall is full
-    pub first-full : is_full (hall_in s) ≡ true → eqb (value s 0 4) part_section ≡ false
-    first-full q = rw (head.first, section_full (hall_in s) q)
+    pub first_full : is_full (hall_in s) ≡ true → eqb (value s 0 4) part_section ≡ false
+    first_full q = rw (head.first, section_full (hall_in s) q)
 
     pub first_part : is_full (hall_in s) ≡ false → eqb (value s 0 4) part_section ≡ true
     first_part q = rw (head.first, section_part (hall_in s) q)
@@ -164,7 +164,7 @@ module _ (s : List ℕ) where
         let n = value s 4 1 in
         let k = value s 5 1 in
         cases (is_full (hall_in s))
-        (λ q. rw (first-full q) (read_done (capacity n k) s 7))
+        (λ q. rw (first_full q) (read_done (capacity n k) s 7))
         (λ q. let o = first_part q in
         let there : 11 ≤ length s = rw o at head.there in
         let fits : count_fits n k (value s 7 4) ≡ true = rw o at (hall_fields (hall_in s) head.hall).3 in

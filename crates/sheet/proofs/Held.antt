@@ -20,7 +20,7 @@ use Rattle.sheet.specs.Sheets.{longest, code, retry, codes, packet, packets, tab
 use Rattle.sheet.specs.Answers.{count_place, codes_place, code_count_of, hall_in, accepted_as, sheet_of, packet_place}
 use Rattle.sheet.specs.Accepted.{packet_count_of, PacketFits, Head, Accepted}
 use Rattle.sheet.proofs.Reading.{place_of, read_done, field_read, field_sound, then_value, within}
-use Rattle.sheet.proofs.Sheets.{sheet_long, sheet-refused, sheet-surplus, sheet-read}
+use Rattle.sheet.proofs.Sheets.{sheet_long, sheet_refused, sheet_surplus, sheet_read}
 use Rattle.sheet.proofs.Accepted.{then_read, field_then, then_sound, packet_read, packet_sound, times_width, times_each, times_all}
 use Rattle.sheet.proofs.Codes.{code_width}
 use Rattle.sheet.proofs.Numbers.{refused_by_some}
@@ -36,10 +36,10 @@ accepted_read s ok =
   where
     by : length s ≤ longest → (r : Field) → read night_sheet s 0 ≡ r → (v : ℕ) × (read night_sheet s 0 ≡ Value v (length s))
     by h (Refused number place) e =
-        absurd (refused_by_some s number place e (sym (ap (λ x. x.refusal) (sheet-refused s h number place e)) ∙ ok))
+        absurd (refused_by_some s number place e (sym (ap (λ x. x.refusal) (sheet_refused s h number place e)) ∙ ok))
     by h (Value v end) e =
         cases (ltb end (length s))
-        (λ q. absurd (omega (arith, ok, ap (λ x. x.refusal) (sheet-surplus s h v end e (ltb-true end (length s) q)))))
+        (λ q. absurd (omega (arith, ok, ap (λ x. x.refusal) (sheet_surplus s h v end e (ltb-true end (length s) q)))))
         (λ q. let w = (within night_sheet s 0 (omega arith)).1 in
         let z : end ≡ length s = omega (arith, ltb-false end (length s) q, ap place_of e) in
         (v, e ∙ ap (λ (m : ℕ). Value v m) z))
@@ -140,4 +140,4 @@ module _ (s : List ℕ) (a : Accepted s) where
   pub holds_accepted : sheet_of s ≡ accepted_as (hall_in s) (packet_count_of s)
   holds_accepted =
       let l = long in
-      sheet-read s a.short ∙ rw (held_read, le-ltb (length s) (length s) (omega arith))
+      sheet_read s a.short ∙ rw (held_read, le-ltb (length s) (length s) (omega arith))

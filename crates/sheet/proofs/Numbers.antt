@@ -20,8 +20,8 @@ use Rattle.words.specs.Words.{value}
 use Rattle.sheet.specs.Formats.{Format, done, field, and_then, read}
 use Rattle.sheet.specs.Sheets.{longest, any, full_section, part_section, number_count, fitted, code, times, packet, tables_of, night_sheet}
 use Rattle.sheet.specs.Answers.{sheet_of}
-use Rattle.sheet.proofs.Reading.{read_done, read_sound, read_wrong, read_cut, read-cases}
-use Rattle.sheet.proofs.Sheets.{sheet_long, sheet-refused, sheet-surplus, sheet-accepted}
+use Rattle.sheet.proofs.Reading.{read_done, read_sound, read_wrong, read_cut, read_cases}
+use Rattle.sheet.proofs.Sheets.{sheet_long, sheet_refused, sheet_surplus, sheet_accepted}
 use Rattle.sheet.proofs.Faults.{place_within}
 
 -- a format whose fields are refused by numbers of which P holds; a field that takes every value is never refused
@@ -53,7 +53,7 @@ module _ (P : ℕ → Type 0) where
       let q : Value v at ≡ Refused number place = sym (read_done v s at) ∙ e in
       let x : ◌≡◌ {A = ℕ} 0 1 = cc q in absurd (omega arith)
   read_numbers c (field width sound told next) (numbers h r) s at number place e =
-      read-cases s width sound told next at
+      read_cases s width sound told next at
       (λ l t. read_numbers c (next (value s at width)) (r (value s at width)) s (at + width) number place (sym (read_sound s width sound told next at l t) ∙ e))
       (λ l t. let q : Refused told at ≡ Refused number place = sym (read_wrong s width sound told next at l t) ∙ e in
       let x : told ≡ number = cc q in rw (← x) (h (value s at width) t))
@@ -62,44 +62,44 @@ module _ (P : ℕ → Type 0) where
 
   -- 1, 2, 4, 5 and 8 are the numbers of a sheet's fields
   module _ (of-hall : P bad_hall) (of-uid : P bad_uid) (of_length : P bad_length) (of_code : P bad_code) (of-retry : P bad_retry) where
-    numbers-packet : (limit : ℕ) → Numbers P (packet limit)
+    numbers_packet : (limit : ℕ) → Numbers P (packet limit)
     unfolding packet
-    numbers-packet limit =
+    numbers_packet limit =
         numbers_then (numbers_field 4 (λ v. ltb v limit) bad_uid of-uid) (λ source.
         numbers_then (numbers_field 4 (λ v. ltb v limit) bad_uid of-uid) (λ dst.
         numbers_then (numbers_field 1 (λ v. leb v most_retry) bad_retry of-retry) (λ v. numbers_any 1)))
 
-    numbers-tables : (h : Hall) → Numbers P (tables_of h)
+    numbers_tables : (h : Hall) → Numbers P (tables_of h)
     unfolding tables_of
-    numbers-tables h =
+    numbers_tables h =
         numbers_then (numbers_field 4 (λ v. eqb v (table_length h)) bad_length of_length) (λ bytes.
         numbers_then (numbers_times code (numbers_field 1 known bad_code of_code) bytes) (λ v.
         numbers_then (numbers_any 4) (λ packetCount.
-        numbers_then (numbers_times (packet (servers h)) (numbers-packet (servers h)) packetCount) (λ v. at_end))))
+        numbers_then (numbers_times (packet (servers h)) (numbers_packet (servers h)) packetCount) (λ v. at_end))))
 
-    numbers-fitted : (first n k : ℕ) → Numbers P (fitted first n k)
+    numbers_fitted : (first n k : ℕ) → Numbers P (fitted first n k)
     unfolding fitted
-    numbers-fitted first n k =
+    numbers_fitted first n k =
         pick_holds (Numbers P) (eqb first part_section) (number_count n k) (done (capacity n k))
         (numbers_field 4 (λ v. both (leb 2 k) (ltb v (capacity n k))) bad_hall of-hall) at_end
 
-    pub numbers-sheet : Numbers P night_sheet
+    pub numbers_sheet : Numbers P night_sheet
     unfolding night_sheet
-    numbers-sheet =
+    numbers_sheet =
         numbers_then (numbers_field 4 (λ v. either (eqb v full_section) (eqb v part_section)) bad_length of_length) (λ first.
         numbers_then (numbers_field 1 n_fits bad_hall of-hall) (λ n.
         numbers_then (numbers_field 1 (k_fits n) bad_hall of-hall) (λ k.
         numbers_then (numbers_field 1 (b_fits k) bad_hall of-hall) (λ b.
-        numbers_then (numbers-fitted first n k) (λ count. numbers-tables (hall_of n k b count))))))
+        numbers_then (numbers_fitted first n k) (λ count. numbers_tables (hall_of n k b count))))))
 
     -- so P holds of the number that reading a sheet is refused by, where it holds of these and of 10
-    pub refused-numbers : P bad_sheet → (s : List ℕ) (number place : ℕ) → read night_sheet s 0 ≡ Refused number place → P number
-    refused-numbers c s number place e = read_numbers c night_sheet numbers-sheet s 0 number place e
+    pub refused_numbers : P bad_sheet → (s : List ℕ) (number place : ℕ) → read night_sheet s 0 ≡ Refused number place → P number
+    refused_numbers c s number place e = read_numbers c night_sheet numbers_sheet s 0 number place e
 
 -- a sheet is not refused by 0
 pub refused_by_some : (s : List ℕ) (number place : ℕ) → read night_sheet s 0 ≡ Refused number place → number ≡ 0 → ⊥
 refused_by_some =
-    refused-numbers (λ number. number ≡ 0 → ⊥) (λ z. omega arith) (λ z. omega arith) (λ z. omega arith) (λ z. omega arith) (λ z. omega arith) (λ z. omega arith)
+    refused_numbers (λ number. number ≡ 0 → ⊥) (λ z. omega arith) (λ z. omega arith) (λ z. omega arith) (λ z. omega arith) (λ z. omega arith) (λ z. omega arith)
 
 -- its refusal is a number of the table
 pub refusal_listed : (s : List ℕ) → (sheet_of s).refusal ≤ bad_address
@@ -112,13 +112,13 @@ refusal_listed s =
     by h (Refused number place) e =
         omega (
           arith,
-          ap (λ (x : Sheet). x.refusal) (sheet-refused s h number place e),
-          refused-numbers (λ n. n ≤ bad_address) (omega arith) (omega arith) (omega arith) (omega arith) (omega arith) (omega arith) s number place e,
+          ap (λ (x : Sheet). x.refusal) (sheet_refused s h number place e),
+          refused_numbers (λ n. n ≤ bad_address) (omega arith) (omega arith) (omega arith) (omega arith) (omega arith) (omega arith) s number place e,
         )
     by h (Value v end) e =
         cases (ltb end (length s))
-        (λ q. omega (arith, ap (λ (x : Sheet). x.refusal) (sheet-surplus s h v end e (ltb-true end (length s) q))))
-        (λ q. omega (arith, ap (λ (x : Sheet). x.refusal) (sheet-accepted s h v end e (ltb-false end (length s) q))))
+        (λ q. omega (arith, ap (λ (x : Sheet). x.refusal) (sheet_surplus s h v end e (ltb-true end (length s) q))))
+        (λ q. omega (arith, ap (λ (x : Sheet). x.refusal) (sheet_accepted s h v end e (ltb-false end (length s) q))))
 
 -- and its place is one of the bytes that a sheet may have, or the one behind them
 pub place_listed : (s : List ℕ) → (sheet_of s).place ≤ longest

@@ -46,11 +46,11 @@ module _ (s : List ℕ) (width : ℕ) (sound : ℕ → Bool) (number : ℕ) (beh
   read_cut h = rw (lt-leb (at + width) (length s) h)
 
   -- by the three ways that a field is read
-  pub read-cases {ℓ} : {A : Type ℓ}
+  pub read_cases {ℓ} : {A : Type ℓ}
       → (at + width ≤ length s → sound (value s at width) ≡ true → A)
       → (at + width ≤ length s → sound (value s at width) ≡ false → A)
       → (length s < at + width → A) → A
-  read-cases passed wrong cut =
+  read_cases passed wrong cut =
       cases (leb (at + width) (length s))
       (λ h. cases (sound (value s at width)) (passed (leb-true (at + width) (length s) h)) (wrong (leb-true (at + width) (length s) h)))
       (λ h. cut (leb-false (at + width) (length s) h))
@@ -61,7 +61,7 @@ pub read_then : (f : Format) (g : ℕ → Format) (s : List ℕ) (at : ℕ)
 unfolding and_then
 read_then (done v) g s at = rw (read_done v s at)
 read_then (field width sound number behind) g s at =
-    read-cases s width sound number behind at
+    read_cases s width sound number behind at
     (λ h e. read_sound s width sound number (λ v. and_then (behind v) g) at h e
     ∙ rw (read_sound s width sound number behind at h e) (read_then (behind (value s at width)) g s (at + width)))
     (λ h e. read_wrong s width sound number (λ v. and_then (behind v) g) at h e ∙ rw (read_wrong s width sound number behind at h e))
@@ -80,7 +80,7 @@ then_refused f g s at number place e = read_then f g s at ∙ rw e
 pub within : (f : Format) (s : List ℕ) (at : ℕ) → at ≤ length s → (at ≤ place_of (read f s at)) × (place_of (read f s at) ≤ length s)
 within (done v) s at h = rw (read_done v s at) (omega arith, h)
 within (field width sound number behind) s at h =
-    read-cases s width sound number behind at
+    read_cases s width sound number behind at
     (λ l e. let w = within (behind (value s at width)) s (at + width) l in
     rw (read_sound s width sound number behind at l e) (omega (arith, w.0), w.1))
     (λ l e. rw (read_wrong s width sound number behind at l e) (omega arith, h))
@@ -90,7 +90,7 @@ within (field width sound number behind) s at h =
 module _ (s : List ℕ) (width at v next : ℕ) (r : Field) (found : r ≡ read (any width) s at) where
   pub any_value : r ≡ Value v next → (v ≡ value s at width) × (next ≡ at + width) × (at + width ≤ length s)
   any_value e =
-      read-cases s width (λ x. true) 0 done at
+      read_cases s width (λ x. true) 0 done at
       (λ h t. let q : Value v next ≡ Value (value s at width) (at + width) =
       sym e ∙ found ∙ read_sound s width (λ x. true) 0 done at h refl ∙ read_done (value s at width) s (at + width) in
       ((cc q), (cc q), h))
@@ -117,7 +117,7 @@ module _ (s : List ℕ) (width at v next : ℕ) (r : Field) (found : r ≡ read 
 pub missed : (s : List ℕ) (width at number place : ℕ) (r : Field) → r ≡ read (any width) s at → r ≡ Refused number place
     → (sound : ℕ → Bool) (other : ℕ) → r ≡ read (field width sound other done) s at
 missed s width at number place r found e sound other =
-    read-cases s width (λ x. true) 0 done at
+    read_cases s width (λ x. true) 0 done at
     (λ h t. let q : Refused number place ≡ Value (value s at width) (at + width) =
     sym e ∙ found ∙ read_sound s width (λ x. true) 0 done at h refl ∙ read_done (value s at width) s (at + width) in
     let z : ◌≡◌ {A = ℕ} 0 1 = cc q in absurd (omega arith))
@@ -162,7 +162,7 @@ pub field_read : (width : ℕ) (sound : ℕ → Bool) (number : ℕ) (s : List �
     → read (field width sound number done) s at ≡ Value v next
     → (at + width ≤ length s) × (sound v ≡ true) × (v ≡ value s at width) × (next ≡ at + width)
 field_read width sound number s at v next e =
-    read-cases s width sound number done at
+    read_cases s width sound number done at
     (λ h t. let q : Value v next ≡ Value (value s at width) (at + width) =
     sym e ∙ read_sound s width sound number done at h t ∙ read_done (value s at width) s (at + width) in
     let x : v ≡ value s at width = cc q in

@@ -17,16 +17,16 @@ module _ (s : List ℕ) where
   sheet_long h = rw (lt-ltb longest (length s) h)
 
   module _ (short : length s ≤ longest) where
-    pub sheet-read : sheet_of s ≡ told s (read night_sheet s 0)
+    pub sheet_read : sheet_of s ≡ told s (read night_sheet s 0)
     unfolding sheet_of
-    sheet-read = rw (le-ltb longest (length s) short)
+    sheet_read = rw (le-ltb longest (length s) short)
 
-    pub sheet-refused : (number place : ℕ) → read night_sheet s 0 ≡ Refused number place → sheet_of s ≡ refused_at number place
-    sheet-refused number place e = sheet-read ∙ rw e
+    pub sheet_refused : (number place : ℕ) → read night_sheet s 0 ≡ Refused number place → sheet_of s ≡ refused_at number place
+    sheet_refused number place e = sheet_read ∙ rw e
 
     module _ (packetCount end : ℕ) (e : read night_sheet s 0 ≡ Value packetCount end) where
-      pub sheet-surplus : end < length s → sheet_of s ≡ refused_at bad_sheet end
-      sheet-surplus h = sheet-read ∙ rw (e, lt-ltb end (length s) h)
+      pub sheet_surplus : end < length s → sheet_of s ≡ refused_at bad_sheet end
+      sheet_surplus h = sheet_read ∙ rw (e, lt-ltb end (length s) h)
 
-      pub sheet-accepted : length s ≤ end → sheet_of s ≡ accepted_as (hall_in s) packetCount
-      sheet-accepted h = sheet-read ∙ rw (e, le-ltb end (length s) h)
+      pub sheet_accepted : length s ≤ end → sheet_of s ≡ accepted_as (hall_in s) packetCount
+      sheet_accepted h = sheet_read ∙ rw (e, le-ltb end (length s) h)

@@ -16,14 +16,14 @@ use Rattle.sheet.specs.Formats.{Format, done, and_then}
 use Rattle.sheet.specs.Sheets.{fitted, behind_codes, codes, packet, packets, times, tables_of, night_sheet}
 use Rattle.sheet.specs.Answers.{count_place, codes_place, code_count_of, fitted_in, hall_in, accepted_as, sheet_of, packet_place}
 use Rattle.sheet.specs.Accepted.{packet_count_of, Head}
-use Rattle.sheet.proofs.Heads.{first-full, first_part}
+use Rattle.sheet.proofs.Heads.{first_full, first_part}
 use Rattle.sheet.proofs.Held.{accepted_read, accepted_holds, accepted_head, long, holds_accepted}
 use Rattle.laying.specs.Filled.{laid, values_in}
 use Rattle.laying.proofs.Reading.{accepted_laid, values_then}
 use Rattle.sheetparts.specs.declared.SheetPacket.{SheetPacket}
 use Rattle.sheetparts.specs.Parts.{codes_of, packet_part, packet_fields, packet_at}
 use Rattle.sheetparts.specs.Encoding.{packets_bytes, fitted_bytes, encoding_of}
-use Rattle.sheetparts.proofs.Parts.{codes_there_lem, codes-answered, packet-answered}
+use Rattle.sheetparts.proofs.Parts.{codes_there_lem, codes_answered, packet_answered}
 
 -- packets that agree have the same bytes
 packets_alike : (p q : ℕ → SheetPacket) (i so-many : ℕ) → ((j : ℕ) → j < i + so-many → p j ≡ q j) → packets_bytes p i so-many ≡ packets_bytes q i so-many
@@ -77,7 +77,7 @@ module _ (s : List ℕ) (b : Bytes s) where
   unfolding laid values_in and_then fitted fitted_in count_place fitted_bytes
   fitted_values head g =
       cases (is_full (hall_in s))
-      (λ q. rw (q, first-full s head q))
+      (λ q. rw (q, first_full s head q))
       (λ q. rw (q, first_part s head q))
 
   sheet_values : Head s → laid (values_in night_sheet s 0)
@@ -111,8 +111,8 @@ module _ (s : List ℕ) (b : Bytes s) where
       let a = accepted_holds s ok in
       let e = holds_accepted s a in
       encoded (codes_of s) (packet_at s) ok
-      (sym (codes_there_lem s (omega (arith, long s a)) ∙ codes-answered s (sheet_of s) refl ok))
-      (λ i h. sym (packet-answered s (sheet_of s) refl i ok (omega (arith, ap (λ x. x.packets) e))))
+      (sym (codes_there_lem s (omega (arith, long s a)) ∙ codes_answered s (sheet_of s) refl ok))
+      (λ i h. sym (packet_answered s (sheet_of s) refl i ok (omega (arith, ap (λ x. x.packets) e))))
       ∙ ap (λ (x : Sheet). encoding_of x (codes_of s) (packet_at s)) (sym e)
 
 -- two accepted sheets with equal values are equal bytes

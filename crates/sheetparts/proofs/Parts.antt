@@ -50,20 +50,20 @@ module _ (s : List ℕ) where
   codes_there_lem h = rw (le-leb (codes_place s + code_count_of s) (length s) h)
 
   module _ (r : Sheet) (read : r ≡ sheet_of s) where
-    pub codes-refused : (r.refusal ≡ 0 → ⊥) → [] ≡ codes_of s
-    codes-refused h = rw (← read, ne_eqb r.refusal 0 h)
+    pub codes_refused : (r.refusal ≡ 0 → ⊥) → [] ≡ codes_of s
+    codes_refused h = rw (← read, ne_eqb r.refusal 0 h)
 
-    pub codes-answered : r.refusal ≡ 0 → codes_part s ≡ codes_of s
-    codes-answered h = rw (← read, eq-eqb r.refusal 0 h)
+    pub codes_answered : r.refusal ≡ 0 → codes_part s ≡ codes_of s
+    codes_answered h = rw (← read, eq-eqb r.refusal 0 h)
 
-    pub packet-of-refused : (i : ℕ) → (r.refusal ≡ 0 → ⊥) → packet_refused r.refusal r.place ≡ packet_at s i
-    packet-of-refused i h = rw (← read, ne_eqb r.refusal 0 h)
+    pub packet_of_refused : (i : ℕ) → (r.refusal ≡ 0 → ⊥) → packet_refused r.refusal r.place ≡ packet_at s i
+    packet_of_refused i h = rw (← read, ne_eqb r.refusal 0 h)
 
-    pub packet-past : (i : ℕ) → r.refusal ≡ 0 → r.packets ≤ i → packet_refused bad_range 0 ≡ packet_at s i
-    packet-past i h l = rw (← read, eq-eqb r.refusal 0 h, le-ltb i r.packets l)
+    pub packet_past : (i : ℕ) → r.refusal ≡ 0 → r.packets ≤ i → packet_refused bad_range 0 ≡ packet_at s i
+    packet_past i h l = rw (← read, eq-eqb r.refusal 0 h, le-ltb i r.packets l)
 
-    pub packet-answered : (i : ℕ) → r.refusal ≡ 0 → i < r.packets → packet_fields s i ≡ packet_at s i
-    packet-answered i h l = rw (← read, eq-eqb r.refusal 0 h, lt-ltb i r.packets l)
+    pub packet_answered : (i : ℕ) → r.refusal ≡ 0 → i < r.packets → packet_fields s i ≡ packet_at s i
+    packet_answered i h l = rw (← read, eq-eqb r.refusal 0 h, lt-ltb i r.packets l)
 
   -- a packet by its bytes
   pub packet_short : (i : ℕ) → length s < codes_place s + code_count_of s + 4 + 10 * i + 10 → packet_refused bad_range 0 ≡ packet_fields s i

@@ -25,7 +25,7 @@ use Rattle.sheet.specs.Sheets.{behind_codes, longest, section_of, packet, packet
 use Rattle.sheet.specs.Answers.{count_place, codes_place, code_count_of, hall_in, told, sheet_of}
 use Rattle.sheet.proofs.Places.{codes_behind, section_sound, count_place_lem}
 use Rattle.sheet.proofs.Reading.{onward}
-use Rattle.sheet.proofs.Sheets.{sheet_long, sheet-read}
+use Rattle.sheet.proofs.Sheets.{sheet_long, sheet_read}
 use Rattle.sheetparts.specs.declared.SheetPacket.{SheetPacket}
 use Rattle.sheetparts.specs.Encoding.{packet_bytes, packets_bytes, fitted_bytes, encoding_of}
 use Rattle.laying.proofs.Lists.{every_map}
@@ -291,7 +291,7 @@ refused_as_read h codes list bytes held =
     cases (ltb longest (length s))
     (λ q. sheet_long s (ltb-true longest (length s) q) ∙ rw q)
     (λ q. let short = ltb-false longest (length s) q in
-    sheet-read s short
+    sheet_read s short
     ∙ ap (told s) (read_laid x (sheet_fits h codes list held short bytes) s 0 [] (omega arith) (sym (append-nil (laid x))))
     ∙ rw q (by (judged x 0) refl (sheet_stands h codes list bytes held short)))
   where

@@ -22,14 +22,14 @@ use Rattle.words.proofs.Bytes.{bytes_long, value_laid, value_fits, drop-laid}
 use Rattle.sheet.specs.Formats.{and_then, done}
 use Rattle.sheet.specs.Sheets.{behind_codes, longest, packet, packets, tables_of, night_sheet}
 use Rattle.sheet.specs.Answers.{codes_place, code_count_of, accepted_as, sheet_of, packet_place, hall_in}
-use Rattle.sheet.proofs.Numbers.{numbers-sheet}
+use Rattle.sheet.proofs.Numbers.{numbers_sheet}
 use Rattle.sheet.proofs.Held.{accepted_holds, long, holds_accepted}
 use Rattle.sheet.proofs.Heads.{hall_fields}
 use Rattle.sheet.proofs.Places.{section_sound}
 use Rattle.sheetparts.specs.declared.SheetPacket.{SheetPacket}
 use Rattle.sheetparts.specs.Parts.{codes_of, packet_part, packet_at, packet_refused}
 use Rattle.sheetparts.specs.Encoding.{packet_bytes}
-use Rattle.sheetparts.proofs.Parts.{codes_there_lem, codes-answered, packet-answered}
+use Rattle.sheetparts.proofs.Parts.{codes_there_lem, codes_answered, packet_answered}
 use Rattle.ports.specs.Codes.{known, table_length}
 use Rattle.laying.proofs.Lists.{every_map, at_every}
 use Rattle.laying.specs.Filled.{result, judged, All, Sound, joined, Every, ended, each}
@@ -52,7 +52,7 @@ writer_sound h codes list e =
     by : (r : Field) → judged (filled_sheet h codes list) 0 ≡ r → (told_for h r).refusal ≡ 0 → Sound (filled_sheet h codes list)
     by (Refused number place) d z =
         absurd (judged_numbers (λ number. number ≡ 0 → ⊥) (filled_sheet h codes list)
-        (numbers-sheet _ (λ z. omega arith) (λ z. omega arith) (λ z. omega arith) (λ z. omega arith) (λ z. omega arith)) 0 number place d z)
+        (numbers_sheet _ (λ z. omega arith) (λ z. omega arith) (λ z. omega arith) (λ z. omega arith) (λ z. omega arith)) 0 number place d z)
     by (Value v end) d z = judged_sound (filled_sheet h codes list) 0 v end d
 
 -- and a short and sound one is answered with its values
@@ -179,7 +179,7 @@ module _ (h : Hall) (codes : List ℕ) (list : List SheetPacket) (held : Held co
       let s = sheet_for h codes list in
       let w = stands in
       let a = accepted_holds s (ap (λ x. x.refusal) reads_back) in
-      sym (codes_there_lem s (omega (arith, long s a)) ∙ codes-answered s (sheet_of s) refl (ap (λ x. x.refusal) reads_back))
+      sym (codes_there_lem s (omega (arith, long s a)) ∙ codes_answered s (sheet_of s) refl (ap (λ x. x.refusal) reads_back))
       ∙ rw (w.second, w.codes_part_lem) (take_at codes _ (length codes) refl)
 
   pub packet_back_at : (i : ℕ) → i < length list → packet_at (sheet_for h codes list) i ≡ plain (packet_from list i)
@@ -190,7 +190,7 @@ module _ (h : Hall) (codes : List ℕ) (list : List SheetPacket) (held : Held co
       let r = packet_stands list i b in
       let at = codes_place s + length codes + 4 in
       let d : drop (at + 10 * i) s ≡ packet_bytes (packet_from list i) ++ r.0 = sym (drop-drop (10 * i) at s) ∙ rw w.packets_part r.1 in
-      sym (packet-answered s (sheet_of s) refl i (ap (λ x. x.refusal) reads_back) (omega (arith, ap (λ x. x.packets) reads_back)))
+      sym (packet_answered s (sheet_of s) refl i (ap (λ x. x.refusal) reads_back) (omega (arith, ap (λ x. x.packets) reads_back)))
       ∙ rw w.second (packet_back s (at + 10 * i) (packet_from list i) r.0 (at_every PacketHeld (packet_refused 0 0) list held.fields i b) d)
 
 every_listed : (P : SheetPacket → Type 0) (packet : ℕ → SheetPacket) (i so-many : ℕ) → ((j : ℕ) → j < i + so-many → P (packet j)) → Every P (listed packet i so-many)
@@ -214,26 +214,26 @@ module _ (s : List ℕ) (b : Bytes s) where
 
   -- an accepted sheet that is written again is the same bytes
   module _ (ok : (sheet_of s).refusal ≡ 0) where
-    read-hall : (sheet_of s).hall ≡ hall_in s
-    read-hall = ap (λ x. x.hall) (holds_accepted s (accepted_holds s ok))
+    read_hall : (sheet_of s).hall ≡ hall_in s
+    read_hall = ap (λ x. x.hall) (holds_accepted s (accepted_holds s ok))
 
     same_codes : codes_of s ≡ take (code_count_of s) (drop (codes_place s) s)
-    same_codes = let a = accepted_holds s ok in sym (codes_there_lem s (omega (arith, long s a)) ∙ codes-answered s (sheet_of s) refl ok)
+    same_codes = let a = accepted_holds s ok in sym (codes_there_lem s (omega (arith, long s a)) ∙ codes_answered s (sheet_of s) refl ok)
 
-    codes-bytes : Every (λ (c : ℕ). c < 256) (codes_of s)
-    codes-bytes = rw same_codes (part_bytes s b (codes_place s) (code_count_of s))
+    codes_bytes : Every (λ (c : ℕ). c < 256) (codes_of s)
+    codes_bytes = rw same_codes (part_bytes s b (codes_place s) (code_count_of s))
 
     pub rewritten : sheet_for (sheet_of s).hall (codes_of s) (packets_read s) ≡ s
-    rewritten = sheet_encoding (sheet_of s) (codes_of s) (packet_at s) codes-bytes ∙ sym (accepted_encoding s b ok)
+    rewritten = sheet_encoding (sheet_of s) (codes_of s) (packet_at s) codes_bytes ∙ sym (accepted_encoding s b ok)
 
     -- and the writer answers what the reader does
-    pub rewritten-said : writer_says (sheet_of s).hall (codes_of s) (packets_read s) ≡ sheet_of s
-    rewritten-said =
+    pub rewritten_said : writer_says (sheet_of s).hall (codes_of s) (packets_read s) ≡ sheet_of s
+    rewritten_said =
         sym (refused_as_read (sheet_of s).hall (codes_of s) (packets_read s)
-        (rw read-hall (hall_bytes (hall_in s) (accepted_holds s ok).hall))
+        (rw read_hall (hall_bytes (hall_in s) (accepted_holds s ok).hall))
         (record {
-          bytes = codes-bytes;
+          bytes = codes_bytes;
           fields = every_listed PacketHeld (packet_at s) 0 (sheet_of s).packets (λ i h.
-              rw (← packet-answered s (sheet_of s) refl i ok (omega arith)) (part_held (packet_place s i)));
+              rw (← packet_answered s (sheet_of s) refl i ok (omega arith)) (part_held (packet_place s i)));
         }))
         ∙ ap sheet_of rewritten

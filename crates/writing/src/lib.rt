@@ -2,4 +2,3 @@
 // function.
 
 #![tactic(auto)]
-

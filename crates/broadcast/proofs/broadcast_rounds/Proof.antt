@@ -7,7 +7,7 @@ use native.Mathlib.Omega.{arith}
 use borrow.Author.Rules.{rules}
 use Rattle.ports.proofs.Parts.{product_fits}
 use Rattle.broadcast.specs.Broadcasts.{scope_size}
-use Rattle.broadcast.proofs.Calls.{scope_size_lem, Accepted, accepted, answer_refused, room_as_lent, size_pos, scoped, origin-low, run_ends, run_is, room-alone, answer-alone, begun-ready, room_long, room-at-exit, answer-is}
+use Rattle.broadcast.proofs.Calls.{scope_size_lem, Accepted, accepted, answer_refused, room_as_lent, size_pos, scoped, origin_low, run_ends, run_is, room_alone, answer_alone, begun_ready, room_long, room_at_exit, answer_is}
 use Rattle.broadcast.proofs.broadcast_rounds.Statement.{statement}
 use Rattle.broadcast.proofs.broadcast_rounds.Tie as tie
 
@@ -94,7 +94,7 @@ begin-requires c κs =
     let a = c.before.before.before.before.before.before.before.before.before.args in
     let w = c.before.before.before in
     let z = w.size_of_lem in
-    (rw (sized w) (taken w).long, origin-low a.h a.table.now a.source a.scope a.room.now (taken w) z.result (sized w))
+    (rw (sized w) (taken w).long, origin_low a.h a.table.now a.source a.scope a.room.now (taken w) z.result (sized w))
 
 same-length-2 : tie.Need-same-length-2
 same-length-2 c = search rules
@@ -107,8 +107,8 @@ returns-2 c =
     let n = c.before.before.before.before.before.before.before.before.before.refused in
     let f = c.before.before.before.before.before.fitted-places in
     let m = c.before.before.before.begin.ensures in (
-      answer-alone a.h a.table.now a.source a.scope a.room.now (taken w) z.result (sized w) f.result f.ensures _ m n.result n.ensures c.before.before.before.before.before.before.before.before.if1.false c.if2.true,
-      room-alone a.h a.table.now a.source a.scope a.room.now (taken w) z.result (sized w) f.result f.ensures _ m n.result n.ensures c.before.before.before.before.before.before.before.before.if1.false c.if2.true,
+      answer_alone a.h a.table.now a.source a.scope a.room.now (taken w) z.result (sized w) f.result f.ensures _ m n.result n.ensures c.before.before.before.before.before.before.before.before.if1.false c.if2.true,
+      room_alone a.h a.table.now a.source a.scope a.room.now (taken w) z.result (sized w) f.result f.ensures _ m n.result n.ensures c.before.before.before.before.before.before.before.before.if1.false c.if2.true,
     )
 
 sub-run : tie.Need-overflow-sub-run
@@ -131,7 +131,7 @@ run-requires c κs =
     let z = w.size_of_lem in
     let n = c.before.before.before.before.before.before.before.before.before.before.before.refused in
     let f = c.before.before.before.before.before.before.before.fitted-places in
-    begun-ready a.h a.table.now a.source a.scope a.room.now (taken w) z.result (sized w) f.result f.ensures _ c.before.before.before.before.before.begin.ensures n.result n.ensures c.before.before.before.before.before.before.before.before.before.before.if1.false c.before.before.if2.false
+    begun_ready a.h a.table.now a.source a.scope a.room.now (taken w) z.result (sized w) f.result f.ensures _ c.before.before.before.before.before.begin.ensures n.result n.ensures c.before.before.before.before.before.before.before.before.before.before.if1.false c.before.before.if2.false
 
 tally-requires : tie.Need-tally-requires
 tally-requires c κs =
@@ -152,8 +152,8 @@ returns-3 c =
     let z = w.size_of_lem in
     let n = c.before.before.before.before.before.before.before.before.before.before.before.before.before.before.before.before.refused in
     let f = c.before.before.before.before.before.before.before.before.before.before.before.before.fitted-places in (
-      answer-is a.h a.table.now a.source a.scope a.room.now (taken w) z.result (sized w) f.result f.ensures _ c.before.before.before.before.before.before.before.before.before.before.begin.ensures n.result n.ensures c.before.before.before.before.before.before.before.before.before.before.before.before.before.before.before.if1.false c.before.before.before.before.before.before.before.if2.false _ (run_is a.h a.table.now a.source a.scope a.room.now (taken w) z.result (sized w) (z.result * (a.h.k + 1)) refl) _ c.before.before.before.before.run.ensures c.tally.result c.tally.ensures,
-      room-at-exit a.h a.table.now a.source a.scope a.room.now (taken w) z.result (sized w) f.result f.ensures _ c.before.before.before.before.before.before.before.before.before.before.begin.ensures n.result n.ensures c.before.before.before.before.before.before.before.before.before.before.before.before.before.before.before.if1.false c.before.before.before.before.before.before.before.if2.false _ (run_is a.h a.table.now a.source a.scope a.room.now (taken w) z.result (sized w) (z.result * (a.h.k + 1)) refl) _ c.before.before.before.before.run.ensures,
+      answer_is a.h a.table.now a.source a.scope a.room.now (taken w) z.result (sized w) f.result f.ensures _ c.before.before.before.before.before.before.before.before.before.before.begin.ensures n.result n.ensures c.before.before.before.before.before.before.before.before.before.before.before.before.before.before.before.if1.false c.before.before.before.before.before.before.before.if2.false _ (run_is a.h a.table.now a.source a.scope a.room.now (taken w) z.result (sized w) (z.result * (a.h.k + 1)) refl) _ c.before.before.before.before.run.ensures c.tally.result c.tally.ensures,
+      room_at_exit a.h a.table.now a.source a.scope a.room.now (taken w) z.result (sized w) f.result f.ensures _ c.before.before.before.before.before.before.before.before.before.before.begin.ensures n.result n.ensures c.before.before.before.before.before.before.before.before.before.before.before.before.before.before.before.if1.false c.before.before.before.before.before.before.before.if2.false _ (run_is a.h a.table.now a.source a.scope a.room.now (taken w) z.result (sized w) (z.result * (a.h.k + 1)) refl) _ c.before.before.before.before.run.ensures,
     )
 
 pub broadcast-rounds-spec : {M : Type 1} → statement M

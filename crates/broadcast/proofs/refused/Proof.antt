@@ -4,7 +4,7 @@ use borrow.Author.Rules.{rules}
 use borrow.Author.Tests.{not-true, not-false}
 use Rattle.ports.proofs.Parts.{sound}
 use Rattle.broadcast.specs.Broadcasts.{scope_size}
-use Rattle.broadcast.proofs.Refusals.{table_refused, scope-refused, room-refused, not_refused}
+use Rattle.broadcast.proofs.Refusals.{table_refused, scope_refused, room_refused, not_refused}
 use Rattle.broadcast.proofs.Calls.{scope_size_lem}
 use Rattle.broadcast.proofs.refused.Statement.{statement}
 use Rattle.broadcast.proofs.refused.Tie as tie
@@ -25,7 +25,7 @@ returns-2 c =
     let a = c.before.before.before.before.before.before.args in
     let z = sym c.before.before.before.part-refusal.ensures ∙ c.before.before.if1.false in
     let f = c.before.scope_fits_lem in
-    scope-refused a.h a.table.now a.source a.scope a.room.now z (sym f.ensures ∙ not-true f.result c.if2.true)
+    scope_refused a.h a.table.now a.source a.scope a.room.now z (sym f.ensures ∙ not-true f.result c.if2.true)
 
 size-of-requires : tie.Need-size-of-requires
 size-of-requires c κs = search rules
@@ -45,7 +45,7 @@ returns-3 c =
     let a = c.before.before.before.before.before.before.before.before.args in
     let z = sym c.before.before.before.before.before.part-refusal.ensures ∙ c.before.before.before.before.if1.false in
     let f = c.before.before.before.scope_fits_lem in
-    room-refused a.h a.table.now a.source a.scope a.room.now z (sym f.ensures ∙ not-false f.result c.before.before.if2.false)
+    room_refused a.h a.table.now a.source a.scope a.room.now z (sym f.ensures ∙ not-false f.result c.before.before.if2.false)
     (rw (sized c.before) at c.if3.true)
 
 returns-4 : tie.Need-returns-4

@@ -7,7 +7,7 @@ use borrow.Author.Rules.{rules}
 use Rattle.hall.specs.declared.Hall.{Hall}
 use Rattle.hall.specs.Halls.{hall_of}
 use Rattle.broadcast.specs.declared.Broadcast.{Broadcast}
-use Rattle.calls_packets.proofs.TwoRooms.{nothing_written, short-told, short-rounds, short-counts, long-rounds}
+use Rattle.calls_packets.proofs.TwoRooms.{nothing_written, short_told, short_rounds, short_counts, long_rounds}
 use Rattle.calls_packets.proofs.calls_broadcast.Statement.{statement}
 use Rattle.calls_packets.proofs.calls_broadcast.Tie as tie
 
@@ -32,11 +32,11 @@ returns c =
     let h : Hall = hall_of a.n a.k a.b a.count in
     let r = c.before.before.broadcast-rounds in
     let short = c.before.before.before.before.if1.true in (
-      ap (λ (answer : Broadcast). answer.refusal) r.ensures.0 ∙ short-told h a.table.now a.source a.scope a.rounds.now a.room.now short,
+      ap (λ (answer : Broadcast). answer.refusal) r.ensures.0 ∙ short_told h a.table.now a.source a.scope a.rounds.now a.room.now short,
       (
         ap (λ (part : List ℕ). part ++ a.rounds.now) (r.ensures.1 ∙ nothing_written h a.table.now a.source a.scope)
-            ∙ short-rounds h a.table.now a.source a.scope a.rounds.now a.room.now short,
-        short-counts h a.table.now a.source a.scope a.rounds.now a.room.now short,
+            ∙ short_rounds h a.table.now a.source a.scope a.rounds.now a.room.now short,
+        short_counts h a.table.now a.source a.scope a.rounds.now a.room.now short,
       ),
     )
 
@@ -62,7 +62,7 @@ returns-2 c =
     let o = c.before.before.tell in (
       rw (← r.ensures.0) o.ensures.0,
       (
-        r.ensures.1 ∙ long-rounds (hall_of a.n a.k a.b a.count) a.table.now a.source a.scope a.rounds.now a.room.now c.before.before.before.before.before.before.before.before.before.if1.false,
+        r.ensures.1 ∙ long_rounds (hall_of a.n a.k a.b a.count) a.table.now a.source a.scope a.rounds.now a.room.now c.before.before.before.before.before.before.before.before.before.if1.false,
         rw (← r.ensures.0) o.ensures.1,
       ),
     )

@@ -11,7 +11,7 @@ use Rattle.hall.specs.Cells.{t, g, sub_over, first_over, end_over, end}
 use Rattle.hall.specs.Halls.{servers, largest}
 use Rattle.cells.specs.Answers.{ends_over}
 use Rattle.hall.proofs.Growth.{g_at, t_next, valid_pos, valid_size, uid_fits, size_of_lem}
-use Rattle.hall.proofs.Place.{place_up, place-sub}
+use Rattle.hall.proofs.Place.{place_up, place_sub}
 use Rattle.hall.proofs.Links.{end_in}
 use Rattle.cells.proofs.Asks.{SoundLink, link_known, refused_test, sound_test}
 use Rattle.cells.proofs.link_between.Goals.{After-ends_over-ends, After-size_of-size, Else-refused-ne0}
@@ -22,22 +22,22 @@ module _ (T u : ℕ) (pos : 0 < T) where
   starts : (p : ℕ) → p < T + 1 → (first_over T (first_over T u + p * T) ≡ first_over T u) × (sub_over T (first_over T u + p * T) ≡ p)
   starts p l =
       let z : first_over T u + p * T ≡ u / ((T + 1) * T) * ((T + 1) * T) + (p * T + 0) = omega arith in
-      (rw z (ap (λ (k : ℕ). k * ((T + 1) * T)) (place_up T (u / ((T + 1) * T)) p 0 pos l)), rw z (place-sub T (u / ((T + 1) * T)) p 0 pos l))
+      (rw z (ap (λ (k : ℕ). k * ((T + 1) * T)) (place_up T (u / ((T + 1) * T)) p 0 pos l)), rw z (place_sub T (u / ((T + 1) * T)) p 0 pos l))
 
-  ends-are : (p q : ℕ) → p < T + 1 → q < T + 1
+  ends_are : (p q : ℕ) → p < T + 1 → q < T + 1
       → ends_over T (first_over T u + p * T) (first_over T u + q * T) ≡ record { near = end_over T u p q; far = end_over T u q p }
-  ends-are p q hp hq = rw ((starts p hp).0, (starts p hp).1, (starts q hq).1)
+  ends_are p q hp hq = rw ((starts p hp).0, (starts p hp).1, (starts q hq).1)
 
 -- what is known of the size s = t(i - 1)
 pub record Size (h : Hall) (u i p q s : ℕ) : Type 0 where
   pub below : s ≡ t h.n (i - 1)
   pub whole : (s + 1) * s ≤ largest
   pub positive : 0 < s
-  pub p-fits : p < s + 1
-  pub q-fits : q < s + 1
+  pub p_fits : p < s + 1
+  pub q_fits : q < s + 1
   pub first : u / ((s + 1) * s) * ((s + 1) * s) < largest
-  pub p-first : p * s ≤ largest
-  pub q-first : q * s ≤ largest
+  pub p_first : p * s ≤ largest
+  pub q_first : q * s ≤ largest
 
 size_known : (h : Hall) (u i p q s : ℕ) → SoundLink h u i p q → s ≡ t h.n (i - 1) → Size h u i p q s
 size_known h u i p q s k e =
@@ -52,11 +52,11 @@ size_known h u i p q s k e =
       below = e;
       whole = omega (arith, b);
       positive = omega (arith, valid_pos h v (i - 1));
-      p-fits = omega (arith, k.p_below);
-      q-fits = omega (arith, k.q_below);
+      p_fits = omega (arith, k.p_below);
+      q_fits = omega (arith, k.q_below);
       first = omega (arith, div-mul-le_self u ((s + 1) * s), uid_fits h v u k.level.below);
-      p-first = omega (arith, mul-le-mul_right s pl);
-      q-first = omega (arith, mul-le-mul_right s ql);
+      p_first = omega (arith, mul-le-mul_right s pl);
+      q_first = omega (arith, mul-le-mul_right s ql);
     }
 
 -- what the code works out is the link
@@ -64,7 +64,7 @@ is_link_lem : (h : Hall) (u i p q s : ℕ) → Size h u i p q s → (e : Ends) �
     → (e.near ≡ end h.n (i - 1) u p q) × (e.far ≡ end h.n (i - 1) u q p)
 unfolding end
 is_link_lem h u i p q s z e f =
-    let a : e ≡ record { near = end_over s u p q; far = end_over s u q p } = f ∙ ends-are s u z.positive p q z.p-fits z.q-fits in
+    let a : e ≡ record { near = end_over s u p q; far = end_over s u q p } = f ∙ ends_are s u z.positive p q z.p_fits z.q_fits in
     (ap (λ (r : Ends). r.near) a ∙ rw z.below, ap (λ (r : Ends). r.far) a ∙ rw z.below)
 
 end_fits : (h : Hall) (u i p q x y r : ℕ) → SoundLink h u i p q → x < g h.n i → y < g h.n i → (x ≡ y → ⊥) → r ≡ end h.n (i - 1) u x y → r < 4294967296
@@ -107,16 +107,16 @@ pub overflow_mul-first : goal.overflow_mul-first
 overflow_mul-first c = omega (arith, (sized (goal.at.overflow_mul-first c).After-size_of-size).first)
 
 pub overflow_mul-p : goal.overflow_mul-p
-overflow_mul-p c = omega (arith, (sized (goal.at.overflow_mul-p c).After-size_of-size).p-first)
+overflow_mul-p c = omega (arith, (sized (goal.at.overflow_mul-p c).After-size_of-size).p_first)
 
 pub overflow_add-first : goal.overflow_add-first
-overflow_add-first c = let z = sized (goal.at.overflow_add-first c).After-size_of-size in omega (arith, z.first, z.p-first)
+overflow_add-first c = let z = sized (goal.at.overflow_add-first c).After-size_of-size in omega (arith, z.first, z.p_first)
 
 pub overflow_mul-q : goal.overflow_mul-q
-overflow_mul-q c = omega (arith, (sized (goal.at.overflow_mul-q c).After-size_of-size).q-first)
+overflow_mul-q c = omega (arith, (sized (goal.at.overflow_mul-q c).After-size_of-size).q_first)
 
 pub overflow_add-first-2 : goal.overflow_add-first-2
-overflow_add-first-2 c = let z = sized (goal.at.overflow_add-first-2 c).After-size_of-size in omega (arith, z.first, z.q-first)
+overflow_add-first-2 c = let z = sized (goal.at.overflow_add-first-2 c).After-size_of-size in omega (arith, z.first, z.q_first)
 
 pub overflow_cast-result : goal.overflow_cast-result
 overflow_cast-result c =

@@ -8,13 +8,13 @@ use Rattle.cells.specs.declared.Neighbour.{Neighbour}
 use Rattle.cells.proofs.Asks.{neighbour_told}
 use Rattle.counted.specs.Counted.{port_fitted}
 use Rattle.counted.proofs.Counted.{port_none, port_near}
-use Rattle.ends.proofs.Counts.{port-told}
+use Rattle.ends.proofs.Counts.{port_told}
 use Rattle.ends.proofs.code_counted.Goals.{After-is_fitted}
 use Rattle.ends.proofs.code_counted.Goals as goal
 
 -- a port of a higher level counts where the call tells that its neighbour is fitted
 told : (c : After-is_fitted) → let a = c.args in port_fitted a.h a.uid a.port ≡ c.is_fitted.result
-told c = port-told c.args.h (omega (arith, (valid_known _ c.requires.0).n_low)) c.requires.0 c.args.uid c.args.port c.neighbour_of.result.uid
+told c = port_told c.args.h (omega (arith, (valid_known _ c.requires.0).n_low)) c.requires.0 c.args.uid c.args.port c.neighbour_of.result.uid
     c.requires.1 c.if-port-lt2.false c.requires.2
     (ap (λ (r : Neighbour). r.uid) c.neighbour_of.ensures ∙ neighbour_told _ _ _ c.requires.0 c.requires.1 (omega (arith, c.if-port-lt2.false)) c.requires.2)
     c.is_fitted.result c.is_fitted.ensures (sym c.requires.3 ∙ not-false c.args.here c.if-not-here.false-raw)

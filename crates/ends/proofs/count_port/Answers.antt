@@ -39,12 +39,12 @@ within : (c : In-loop-p) → let a = c.args in first_of a.h a.uid + c.loop-p.p <
 within c = uid_within c.args.h c.args.uid _ (valid_known _ c.requires.0) c.requires.1 (place c)
 
 -- its code is in the room
-room-is : (c : At-loop-p) → length c.loop-p.room ≡ length c.args.room.now
-room-is c = let a = c.args in
+room_is : (c : At-loop-p) → length c.loop-p.room ≡ length c.args.room.now
+room_is c = let a = c.args in
     ap length c.loop-p.invariant.2 ∙ length-spread a.step a.room.now a.at (port_code a.h (first_of a.h a.uid) a.port a.room.now a.at a.step) c.loop-p.p
 
-stands-in : (c : In-loop-p) → c.loop-p.next < length c.args.room.now
-stands-in c =
+stands_in : (c : In-loop-p) → c.loop-p.next < length c.args.room.now
+stands_in c =
     let m : suc c.loop-p.p * c.args.step ≤ cell_size c.args.h * c.args.step = mul-le-mul_right c.args.step (place c) in
     omega (arith, m, c.loop-p.invariant.1, c.requires.6)
 
@@ -62,7 +62,7 @@ pub overflow_add-first : goal.overflow_add-first
 overflow_add-first c = omega (arith, server (goal.at.overflow_add-first c).In-loop-p, uid_fits c.args.h (valid_known _ c.requires.0) _ (within (goal.at.overflow_add-first c).In-loop-p))
 
 pub bounds-room-next : goal.bounds-room-next
-bounds-room-next c = omega (arith, stands-in (goal.at.bounds-room-next c).In-loop-p, room-is (goal.at.bounds-room-next c).At-loop-p)
+bounds-room-next c = omega (arith, stands_in (goal.at.bounds-room-next c).In-loop-p, room_is (goal.at.bounds-room-next c).At-loop-p)
 
 pub code_counted-requires : goal.code_counted-requires
 code_counted-requires c =
@@ -74,10 +74,10 @@ code_counted-requires c =
     )
 
 pub bounds-room-next-in-loop-p : goal.bounds-room-next-in-loop-p
-bounds-room-next-in-loop-p c = omega (arith, stands-in (goal.at.bounds-room-next-in-loop-p c).In-loop-p, room-is (goal.at.bounds-room-next-in-loop-p c).At-loop-p)
+bounds-room-next-in-loop-p c = omega (arith, stands_in (goal.at.bounds-room-next-in-loop-p c).In-loop-p, room_is (goal.at.bounds-room-next-in-loop-p c).At-loop-p)
 
 pub overflow_add-next : goal.overflow_add-next
-overflow_add-next c = omega (arith, stands-in (goal.at.overflow_add-next c).In-loop-p, (valid_known _ c.requires.0).k_high, c.requires.5)
+overflow_add-next c = omega (arith, stands_in (goal.at.overflow_add-next c).In-loop-p, (valid_known _ c.requires.0).k_high, c.requires.5)
 
 pub overflow_add-p : goal.overflow_add-p
 overflow_add-p c = omega (arith, c.loop-p-test.true)
@@ -98,7 +98,7 @@ loop-p-preserved c =
     )
 
 pub shape_of-room : goal.shape_of-room
-shape_of-room c = room-is (goal.at.shape_of-room c).At-loop-p
+shape_of-room c = room_is (goal.at.shape_of-room c).At-loop-p
 
 pub returns : goal.returns
 returns c =

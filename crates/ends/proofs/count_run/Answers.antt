@@ -19,8 +19,8 @@ port : (c : In-loop-d) → let a = c.args in a.lowest + c.loop-d.d ≤ a.h.k
 port c = omega (arith, c.loop-d-test.true, c.requires.2)
 
 -- the room stays as long as it was
-room-is : (c : At-loop-d) → length c.loop-d.room ≡ length c.args.room.now
-room-is c = let a = c.args in
+room_is : (c : At-loop-d) → length c.loop-d.room ≡ length c.args.room.now
+room_is c = let a = c.args in
     ap length c.loop-d.invariant.1 ∙ length-layered a.ports a.room.now a.at (code_above a.h (first_of a.h a.uid) a.lowest a.ports a.room.now a.at) (cell_size a.h) c.loop-d.d
 
 pub loop-d-init : goal.loop-d-init
@@ -45,7 +45,7 @@ count_port-requires c =
       c.is_fitted-here.ensures ∙ told_fitted c.args.h c.args.uid c.requires.0 c.requires.1,
       omega (arith, t),
       omega (arith, c.requires.2),
-      omega (arith, t, room-is (goal.at.count_port-requires c).At-loop-d, c.requires.3),
+      omega (arith, t, room_is (goal.at.count_port-requires c).At-loop-d, c.requires.3),
     )
 
 pub overflow_add-d : goal.overflow_add-d
@@ -65,7 +65,7 @@ loop-d-preserved c =
     )
 
 pub shape_of-room : goal.shape_of-room
-shape_of-room c = room-is (goal.at.shape_of-room c).At-loop-d
+shape_of-room c = room_is (goal.at.shape_of-room c).At-loop-d
 
 pub returns : goal.returns
 unfolding run_counted

@@ -15,7 +15,7 @@ use Rattle.local.proofs.Sizes.{cell_size_lem, size_pos}
 use Rattle.ends.specs.Tables.{levels, far_code}
 use Rattle.ends.specs.Filling.{spread}
 use Rattle.ends.proofs.Spread.{length-spread}
-use Rattle.ends.proofs.Codes.{first_in_lem, size-some, far_is, far-fits, far_read, cell_few, levels_few, all_far}
+use Rattle.ends.proofs.Codes.{first_in_lem, size_some, far_is, far_fits, far_read, cell_few, levels_few, all_far}
 use Rattle.ends.proofs.put_level.Goals.{After-code_at, After-neighbour_of-far, After-struct_known-1}
 use Rattle.ends.proofs.put_level.Goals as goal
 
@@ -30,23 +30,23 @@ first_is : (c : After-struct_known-1) → let a = c.args in
 unfolding first_of
 first_is c = ap (λ (m : ℕ). c.args.uid / m * m) (counted c)
 
-far-told : (c : After-neighbour_of-far) → let a = c.args in
+far_told : (c : After-neighbour_of-far) → let a = c.args in
     let first = a.uid / c.size_of-count.result * c.size_of-count.result in
     c.neighbour_of-far.result.uid ≡ neighbour a.h.n (a.level - 1) first
 unfolding first_of
-far-told c = ap (λ (r : Neighbour). r.uid) c.neighbour_of-far.ensures
+far_told c = ap (λ (r : Neighbour). r.uid) c.neighbour_of-far.ensures
     ∙ neighbour_told _ _ _ c.requires.0 (rw ((let first_is : let a = c.args in a.uid / c.size_of-count.result * c.size_of-count.result ≡ first_of a.h a.uid = ap (λ (m : ℕ). c.args.uid / m * m) ((let counted : c.size_of-count.result ≡ cell_size c.args.h = cell_size_lem _ _ c.requires.0 c.size_of-count.ensures in counted)) in first_is)) (first_in_lem c.args.h c.requires.0 c.args.uid c.args.level c.requires.1 c.requires.2 c.requires.3)) (omega (arith, c.requires.2)) c.requires.3
 
 some : (c : After-neighbour_of-far) → 0 < c.size_of-size.result
 unfolding first_of
-some c = size-some c.args.h c.requires.0 c.args.uid c.args.level c.requires.1 c.requires.2 c.requires.3 _ _ _ _ ((let counted : c.size_of-count.result ≡ cell_size c.args.h = cell_size_lem _ _ c.requires.0 c.size_of-count.ensures in counted)) ((let sized : let a = c.args in c.size_of-size.result ≡ t a.h.n (a.level - 1) = let p = c.requires in size_of_lem _ _ _ p.0 (omega (arith, p.3)) c.size_of-size.ensures in sized)) ((let first_is : let a = c.args in a.uid / c.size_of-count.result * c.size_of-count.result ≡ first_of a.h a.uid = ap (λ (m : ℕ). c.args.uid / m * m) ((let counted : c.size_of-count.result ≡ cell_size c.args.h = cell_size_lem _ _ c.requires.0 c.size_of-count.ensures in counted)) in first_is)) (far-told c)
+some c = size_some c.args.h c.requires.0 c.args.uid c.args.level c.requires.1 c.requires.2 c.requires.3 _ _ _ _ ((let counted : c.size_of-count.result ≡ cell_size c.args.h = cell_size_lem _ _ c.requires.0 c.size_of-count.ensures in counted)) ((let sized : let a = c.args in c.size_of-size.result ≡ t a.h.n (a.level - 1) = let p = c.requires in size_of_lem _ _ _ p.0 (omega (arith, p.3)) c.size_of-size.ensures in sized)) ((let first_is : let a = c.args in a.uid / c.size_of-count.result * c.size_of-count.result ≡ first_of a.h a.uid = ap (λ (m : ℕ). c.args.uid / m * m) ((let counted : c.size_of-count.result ≡ cell_size c.args.h = cell_size_lem _ _ c.requires.0 c.size_of-count.ensures in counted)) in first_is)) (far_told c)
 
 -- the next place is in the room
-room-is : (c : After-code_at) → length c.loop-p.room ≡ length c.args.room.now
-room-is c = ap length c.loop-p.invariant.2 ∙ length-spread (levels c.args.h) c.args.room.now c.args.at (λ q. far_code c.args.h c.args.table.now (first_of c.args.h c.args.uid + q) c.args.level) c.loop-p.p
+room_is : (c : After-code_at) → length c.loop-p.room ≡ length c.args.room.now
+room_is c = ap length c.loop-p.invariant.2 ∙ length-spread (levels c.args.h) c.args.room.now c.args.at (λ q. far_code c.args.h c.args.table.now (first_of c.args.h c.args.uid + q) c.args.level) c.loop-p.p
 
-stands-in : (c : After-code_at) → c.loop-p.next < length c.args.room.now
-stands-in c =
+stands_in : (c : After-code_at) → c.loop-p.next < length c.args.room.now
+stands_in c =
     let l = c.loop-p in
     let m : suc l.p * levels c.args.h ≤ c.size_of-count.result * levels c.args.h = mul-le-mul_right (levels c.args.h) c.loop-p-test.true in
     omega (arith, m, l.invariant.1, all_far c.args.h c.requires.0 _ ((let counted : c.size_of-count.result ≡ cell_size c.args.h = cell_size_lem _ _ c.requires.0 c.size_of-count.ensures in counted)), c.requires.4)
@@ -82,7 +82,7 @@ loop-p-init c = (omega arith, omega arith, refl)
 pub far_behind-requires : goal.far_behind-requires
 far_behind-requires c =
     let m = mod-lt (c.args.uid / c.size_of-count.result * c.size_of-count.result) (some (goal.at.far_behind-requires c).After-neighbour_of-far) in
-    let f = far-fits c.args.h c.requires.0 c.args.uid c.args.level c.requires.1 c.requires.2 c.requires.3 _ _ _ _ (counted (goal.at.far_behind-requires c).After-struct_known-1) (sized (goal.at.far_behind-requires c).After-struct_known-1) (first_is (goal.at.far_behind-requires c).After-struct_known-1) (far-told (goal.at.far_behind-requires c).After-neighbour_of-far)
+    let f = far_fits c.args.h c.requires.0 c.args.uid c.args.level c.requires.1 c.requires.2 c.requires.3 _ _ _ _ (counted (goal.at.far_behind-requires c).After-struct_known-1) (sized (goal.at.far_behind-requires c).After-struct_known-1) (first_is (goal.at.far_behind-requires c).After-struct_known-1) (far_told (goal.at.far_behind-requires c).After-neighbour_of-far)
     c.loop-p.p c.loop-p-test.true in
     (omega (arith, m, c.loop-p-test.true, counted (goal.at.far_behind-requires c).After-struct_known-1, cell_few c.args.h c.requires.0, sized (goal.at.far_behind-requires c).After-struct_known-1, valid_size c.args.h (valid_known c.args.h c.requires.0) (c.args.level - 1) (omega (arith, c.requires.3))), omega (arith, f))
 
@@ -90,10 +90,10 @@ pub code_at-requires : goal.code_at-requires
 code_at-requires c = c.requires.3
 
 pub bounds-room-next : goal.bounds-room-next
-bounds-room-next c = omega (arith, stands-in (goal.at.bounds-room-next c).After-code_at, room-is (goal.at.bounds-room-next c).After-code_at)
+bounds-room-next c = omega (arith, stands_in (goal.at.bounds-room-next c).After-code_at, room_is (goal.at.bounds-room-next c).After-code_at)
 
 pub overflow_add-next : goal.overflow_add-next
-overflow_add-next c = omega (arith, stands-in (goal.at.overflow_add-next c).After-code_at, levels_few _ c.requires.0)
+overflow_add-next c = omega (arith, stands_in (goal.at.overflow_add-next c).After-code_at, levels_few _ c.requires.0)
 
 pub overflow_add-p : goal.overflow_add-p
 overflow_add-p c = omega (arith, c.loop-p-test.true)
@@ -105,7 +105,7 @@ pub loop-p-preserved : goal.loop-p-preserved
 unfolding spread
 loop-p-preserved c =
     let l = c.loop-p in
-    let f = far_is c.args.h c.requires.0 c.args.uid c.args.level c.requires.1 c.requires.2 c.requires.3 _ _ _ _ (counted (goal.at.loop-p-preserved c).After-struct_known-1) (sized (goal.at.loop-p-preserved c).After-struct_known-1) (first_is (goal.at.loop-p-preserved c).After-struct_known-1) (far-told (goal.at.loop-p-preserved c).After-neighbour_of-far)
+    let f = far_is c.args.h c.requires.0 c.args.uid c.args.level c.requires.1 c.requires.2 c.requires.3 _ _ _ _ (counted (goal.at.loop-p-preserved c).After-struct_known-1) (sized (goal.at.loop-p-preserved c).After-struct_known-1) (first_is (goal.at.loop-p-preserved c).After-struct_known-1) (far_told (goal.at.loop-p-preserved c).After-neighbour_of-far)
     l.p c.loop-p-test.true in
     let r = far_read c.args.h c.args.table.now (first_of c.args.h c.args.uid + l.p) c.args.level _ c.code_at.result c.code_at.ensures (c.far_behind.ensures ∙ f) in (
       omega (arith, c.loop-p-test.true),

@@ -15,7 +15,7 @@ use Rattle.local.proofs.Sizes.{cell_size_lem, size_pos}
 use Rattle.ends.specs.Tables.{levels, far_code}
 use Rattle.ends.specs.Filling.{spread}
 use Rattle.ends.proofs.Spread.{length-spread}
-use Rattle.ends.proofs.Codes.{first_in_lem, size-some, far_is, far-fits, far_read, cell_few, levels_few, all_far}
+use Rattle.ends.proofs.Codes.{first_in_lem, size_some, far_is, far_fits, far_read, cell_few, levels_few, all_far}
 use Rattle.ends.proofs.put_level.Given as goal
 
 abbrev pub invariant-loop-p : goal.invariant-loop-p

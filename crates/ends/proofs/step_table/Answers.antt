@@ -18,7 +18,7 @@ use Rattle.plan.proofs.Asks.{full_is}
 use Rattle.counted.proofs.Counted.{counted_full}
 use Rattle.ends.specs.Tables.{far_count, far_at, step_length, step_table}
 use Rattle.ends.proofs.Codes.{all_far, far_few, cell_bytes}
-use Rattle.ends.proofs.Answers.{part_length, table_refused, part_sound, part-is, table_plain, table-short, table-told, table-written}
+use Rattle.ends.proofs.Answers.{part_length, table_refused, part_sound, part_is, table_plain, table_short, table_told, table_written}
 use Rattle.ends.proofs.Counts.{counted_table}
 use Rattle.ends.proofs.step_table.Goals.{After-put_far, After-struct_known-1, Else-room-near}
 use Rattle.ends.proofs.step_table.Goals as goal
@@ -30,7 +30,7 @@ found c = part_sound c.args.h c.args.table.now c.args.uid _ c.part_refusal-numbe
 near_is : (c : After-struct_known-1) → let a = c.args in
     c.part_of-part.result.now ≡ part a.h a.table.now a.uid
 near_is c = c.part_of-part.ensures
-    ∙ part-is c.args.h c.args.table.now c.args.uid _ c.part_refusal-number.ensures c.args.room.now c.if-number-ne0.false
+    ∙ part_is c.args.h c.args.table.now c.args.uid _ c.part_refusal-number.ensures c.args.room.now c.if-number-ne0.false
 
 sized : (c : After-struct_known-1) → c.size_of.result ≡ cell_size c.args.h
 sized c = cell_size_lem _ _ (found c).is_valid c.size_of.ensures
@@ -51,7 +51,7 @@ wanted c = let a = c.args in
 -- the room has them
 enough : (c : Else-room-near) → let a = c.args in step_length a.h ≤ length a.room.now
 unfolding step_length
-enough c = omega (arith, (let wanted : let a = c.args in length c.part_of-part.result.now + c.size_of.result * (a.h.k - a.h.b) ≡ step_length a.h = let a = c.args in omega (arith, (let near_long : let h = c.args.h in length c.part_of-part.result.now ≡ cell_length h h.b = let a = c.args in ap length ((let near_is : let a = c.args in c.part_of-part.result.now ≡ part a.h a.table.now a.uid = c.part_of-part.ensures ∙ part-is c.args.h c.args.table.now c.args.uid _ c.part_refusal-number.ensures c.args.room.now c.if-number-ne0.false in near_is)) ∙ part_length a.h a.table.now a.uid ((let found : let a = c.args in Sound a.h a.table.now a.uid = part_sound c.args.h c.args.table.now c.args.uid _ c.part_refusal-number.ensures c.args.room.now c.if-number-ne0.false in found)) in near_long), all_far a.h ((let found : let a = c.args in Sound a.h a.table.now a.uid = part_sound c.args.h c.args.table.now c.args.uid _ c.part_refusal-number.ensures c.args.room.now c.if-number-ne0.false in found)).is_valid _ ((let sized : c.size_of.result ≡ cell_size c.args.h = cell_size_lem _ _ ((let found : let a = c.args in Sound a.h a.table.now a.uid = part_sound c.args.h c.args.table.now c.args.uid _ c.part_refusal-number.ensures c.args.room.now c.if-number-ne0.false in found)).is_valid c.size_of.ensures in sized))) in wanted), c.if-room-near.false)
+enough c = omega (arith, (let wanted : let a = c.args in length c.part_of-part.result.now + c.size_of.result * (a.h.k - a.h.b) ≡ step_length a.h = let a = c.args in omega (arith, (let near_long : let h = c.args.h in length c.part_of-part.result.now ≡ cell_length h h.b = let a = c.args in ap length ((let near_is : let a = c.args in c.part_of-part.result.now ≡ part a.h a.table.now a.uid = c.part_of-part.ensures ∙ part_is c.args.h c.args.table.now c.args.uid _ c.part_refusal-number.ensures c.args.room.now c.if-number-ne0.false in near_is)) ∙ part_length a.h a.table.now a.uid ((let found : let a = c.args in Sound a.h a.table.now a.uid = part_sound c.args.h c.args.table.now c.args.uid _ c.part_refusal-number.ensures c.args.room.now c.if-number-ne0.false in found)) in near_long), all_far a.h ((let found : let a = c.args in Sound a.h a.table.now a.uid = part_sound c.args.h c.args.table.now c.args.uid _ c.part_refusal-number.ensures c.args.room.now c.if-number-ne0.false in found)).is_valid _ ((let sized : c.size_of.result ≡ cell_size c.args.h = cell_size_lem _ _ ((let found : let a = c.args in Sound a.h a.table.now a.uid = part_sound c.args.h c.args.table.now c.args.uid _ c.part_refusal-number.ensures c.args.room.now c.if-number-ne0.false in found)).is_valid c.size_of.ensures in sized))) in wanted), c.if-room-near.false)
 
 -- what stands in the room before the codes are counted: the table of the hall table as it is
 plain : (c : After-put_far) → let a = c.args in
@@ -60,7 +60,7 @@ unfolding step_length
 plain c =
     c.put_far.ensures
     ∙ ap (λ (r : List ℕ). put r (length c.part_of-part.result.now) (up_to (far_at c.args.h c.args.table.now c.args.uid) (far_count c.args.h))) c.put_bytes.ensures
-    ∙ table_plain c.args.h c.args.table.now c.args.uid ((let found : let a = c.args in Sound a.h a.table.now a.uid = part_sound c.args.h c.args.table.now c.args.uid _ c.part_refusal-number.ensures c.args.room.now c.if-number-ne0.false in found)) c.args.room.now ((let enough : let a = c.args in step_length a.h ≤ length a.room.now = omega (arith, (let wanted : let a = c.args in length c.part_of-part.result.now + c.size_of.result * (a.h.k - a.h.b) ≡ step_length a.h = let a = c.args in omega (arith, (let near_long : let h = c.args.h in length c.part_of-part.result.now ≡ cell_length h h.b = let a = c.args in ap length ((let near_is : let a = c.args in c.part_of-part.result.now ≡ part a.h a.table.now a.uid = c.part_of-part.ensures ∙ part-is c.args.h c.args.table.now c.args.uid _ c.part_refusal-number.ensures c.args.room.now c.if-number-ne0.false in near_is)) ∙ part_length a.h a.table.now a.uid ((let found : let a = c.args in Sound a.h a.table.now a.uid = part_sound c.args.h c.args.table.now c.args.uid _ c.part_refusal-number.ensures c.args.room.now c.if-number-ne0.false in found)) in near_long), all_far a.h ((let found : let a = c.args in Sound a.h a.table.now a.uid = part_sound c.args.h c.args.table.now c.args.uid _ c.part_refusal-number.ensures c.args.room.now c.if-number-ne0.false in found)).is_valid _ ((let sized : c.size_of.result ≡ cell_size c.args.h = cell_size_lem _ _ ((let found : let a = c.args in Sound a.h a.table.now a.uid = part_sound c.args.h c.args.table.now c.args.uid _ c.part_refusal-number.ensures c.args.room.now c.if-number-ne0.false in found)).is_valid c.size_of.ensures in sized))) in wanted), c.if-room-near.false) in enough)) c.part_of-part.result.now ((let near_is : let a = c.args in c.part_of-part.result.now ≡ part a.h a.table.now a.uid = c.part_of-part.ensures ∙ part-is c.args.h c.args.table.now c.args.uid _ c.part_refusal-number.ensures c.args.room.now c.if-number-ne0.false in near_is))
+    ∙ table_plain c.args.h c.args.table.now c.args.uid ((let found : let a = c.args in Sound a.h a.table.now a.uid = part_sound c.args.h c.args.table.now c.args.uid _ c.part_refusal-number.ensures c.args.room.now c.if-number-ne0.false in found)) c.args.room.now ((let enough : let a = c.args in step_length a.h ≤ length a.room.now = omega (arith, (let wanted : let a = c.args in length c.part_of-part.result.now + c.size_of.result * (a.h.k - a.h.b) ≡ step_length a.h = let a = c.args in omega (arith, (let near_long : let h = c.args.h in length c.part_of-part.result.now ≡ cell_length h h.b = let a = c.args in ap length ((let near_is : let a = c.args in c.part_of-part.result.now ≡ part a.h a.table.now a.uid = c.part_of-part.ensures ∙ part_is c.args.h c.args.table.now c.args.uid _ c.part_refusal-number.ensures c.args.room.now c.if-number-ne0.false in near_is)) ∙ part_length a.h a.table.now a.uid ((let found : let a = c.args in Sound a.h a.table.now a.uid = part_sound c.args.h c.args.table.now c.args.uid _ c.part_refusal-number.ensures c.args.room.now c.if-number-ne0.false in found)) in near_long), all_far a.h ((let found : let a = c.args in Sound a.h a.table.now a.uid = part_sound c.args.h c.args.table.now c.args.uid _ c.part_refusal-number.ensures c.args.room.now c.if-number-ne0.false in found)).is_valid _ ((let sized : c.size_of.result ≡ cell_size c.args.h = cell_size_lem _ _ ((let found : let a = c.args in Sound a.h a.table.now a.uid = part_sound c.args.h c.args.table.now c.args.uid _ c.part_refusal-number.ensures c.args.room.now c.if-number-ne0.false in found)).is_valid c.size_of.ensures in sized))) in wanted), c.if-room-near.false) in enough)) c.part_of-part.result.now ((let near_is : let a = c.args in c.part_of-part.result.now ≡ part a.h a.table.now a.uid = c.part_of-part.ensures ∙ part_is c.args.h c.args.table.now c.args.uid _ c.part_refusal-number.ensures c.args.room.now c.if-number-ne0.false in near_is))
 
 pub returns-then-number-ne0 : goal.returns-then-number-ne0
 returns-then-number-ne0 c = let it = let a = c.args in
@@ -80,7 +80,7 @@ overflow_add-near c = let a = c.args in
     omega (arith, few (goal.at.overflow_add-near c).After-struct_known-1, near_long (goal.at.overflow_add-near c).After-struct_known-1, cell_bytes a.h (found (goal.at.overflow_add-near c).After-struct_known-1).is_valid)
 
 pub returns-then-room-near : goal.returns-then-room-near
-returns-then-room-near c = let it = table-short c.args.h c.args.table.now c.args.uid _ c.part_refusal-number.ensures c.args.room.now
+returns-then-room-near c = let it = table_short c.args.h c.args.table.now c.args.uid _ c.part_refusal-number.ensures c.args.room.now
     c.if-number-ne0.false (omega (arith, c.if-room-near.true, wanted (goal.at.returns-then-room-near c).After-struct_known-1)) in record { number = it.0; room = it.1 }
 
 pub put_far-requires : goal.put_far-requires
@@ -97,9 +97,9 @@ returns-then-h-racks_of c =
     let m = enough (goal.at.returns-then-h-racks_of c).Else-room-near in
     let f = full_is c.args.h c.racks_of.result (found (goal.at.returns-then-h-racks_of c).After-struct_known-1).is_valid c.racks_of.ensures c.if-h-racks_of.true in
     let t = counted_full c.args.h 0 c.args.table.now f in record {
-      number = table-told c.args.h c.args.table.now c.args.uid _ e c.args.room.now z m;
+      number = table_told c.args.h c.args.table.now c.args.uid _ e c.args.room.now z m;
       room = plain (goal.at.returns-then-h-racks_of c).After-put_far
-          ∙ table-written c.args.h c.args.table.now c.args.uid _ e c.args.room.now z m _ (ap (λ (x : List ℕ). step_table c.args.h x c.args.uid) (sym t));
+          ∙ table_written c.args.h c.args.table.now c.args.uid _ e c.args.room.now z m _ (ap (λ (x : List ℕ). step_table c.args.h x c.args.uid) (sym t));
     }
 
 pub count_codes-requires : goal.count_codes-requires
@@ -119,8 +119,8 @@ returns c =
     let m = enough (goal.at.returns c).Else-room-near in
     let e = c.part_refusal-number.ensures in
     let z = c.if-number-ne0.false in record {
-      number = table-told c.args.h c.args.table.now c.args.uid _ e c.args.room.now z m;
+      number = table_told c.args.h c.args.table.now c.args.uid _ e c.args.room.now z m;
       room = c.count_codes.ensures
           ∙ counted_table c.args.h c.args.table.now c.args.uid (found (goal.at.returns c).After-struct_known-1) c.args.room.now m _ (plain (goal.at.returns c).After-put_far)
-          ∙ table-written c.args.h c.args.table.now c.args.uid _ e c.args.room.now z m _ refl;
+          ∙ table_written c.args.h c.args.table.now c.args.uid _ e c.args.room.now z m _ refl;
     }

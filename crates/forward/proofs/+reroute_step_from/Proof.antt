@@ -5,7 +5,7 @@ use Prim.Native.Nat.{ℕ, ◌+◌, ◌*◌, ◌<◌}
 use native.Mathlib.Omega.{arith}
 use borrow.Author.Rules.{rules}
 use Rattle.forward.specs.declared.Packet.{Packet}
-use Rattle.forward.proofs.CodeSteps.{step_goes, step-drops, step-blocked, reroute_last, reroute-misses, reroute-again, turn_retry, step_few, stands_ahead, looked, stands_blocked, stopped-retried, stands-again}
+use Rattle.forward.proofs.CodeSteps.{step_goes, step_drops, step_blocked, reroute_last, reroute_misses, reroute_again, turn_retry, step_few, stands_ahead, looked, stands_blocked, stopped_retried, stands_again}
 use borrow.Fn.Kinds.{In}
 use borrow.Fn.PlainCycle.{Measures, is, falls, and}
 use Rattle.forward.proofs.reroute.Reads as reroute
@@ -82,7 +82,7 @@ reroute_retried_requires : (t : ℕ) → reroute-lts.Need-retried-requires (rero
 reroute_retried_requires t c κs = omega arith
 
 reroute_turn_requires : (t : ℕ) → reroute-lts.Need-turn-requires (reroute_env t) (reroute_at t) reroute.Post
-reroute_turn_requires t c κs = stopped-retried _ _ _ _ _ c.before.before.before.before.requires.1 _ c.retried.ensures
+reroute_turn_requires t c κs = stopped_retried _ _ _ _ _ c.before.before.before.before.requires.1 _ c.retried.ensures
 
 reroute_enum_told : (t : ℕ) → reroute-lts.Need-enum-told (reroute_env t) (reroute_at t) reroute.Post
 reroute_enum_told t c = search rules
@@ -98,13 +98,13 @@ reroute_goal_requires t c κs = search rules
 
 reroute_look_requires : (t : ℕ) → reroute-lts.Need-look-requires (reroute_env t) (reroute_at t) reroute.Post
 reroute_look_requires t c κs =
-    stands_ahead _ _ _ _ (stands-again _ _ _ _ _ (stopped-retried _ _ _ _ _ c.before.before.before.before.before.before.before.before.before.requires.1 _ c.before.before.before.before.before.retried.ensures) _ c.before.before.before.before.before.before.before.before.before.args.arrived _ (sym c.before.before.before.before.turn.ensures ∙ c.before.before.packet.given.1)) _ c.goal.ensures
+    stands_ahead _ _ _ _ (stands_again _ _ _ _ _ (stopped_retried _ _ _ _ _ c.before.before.before.before.before.before.before.before.before.requires.1 _ c.before.before.before.before.before.retried.ensures) _ c.before.before.before.before.before.before.before.before.before.args.arrived _ (sym c.before.before.before.before.turn.ensures ∙ c.before.before.packet.given.1)) _ c.goal.ensures
 
 reroute_step_from_requires : (t : ℕ) → reroute-lts.Need-step-from-requires (reroute_env t) (reroute_at t) reroute.Post
 reroute_step_from_requires t c κs = (
   omega (arith, turn_retry _ _ _ _ _ _ _ (sym c.before.before.before.before.before.turn.ensures ∙ c.before.before.before.packet.given.1), ap (λ (x : Packet). x.retry) c.before.before.before.before.before.before.retried.ensures),
   (
-    stands-again _ _ _ _ _ (stopped-retried _ _ _ _ _ c.before.before.before.before.before.before.before.before.before.before.requires.1 _ c.before.before.before.before.before.before.retried.ensures) _ c.before.before.before.before.before.before.before.before.before.before.args.arrived _ (sym c.before.before.before.before.before.turn.ensures ∙ c.before.before.before.packet.given.1),
+    stands_again _ _ _ _ _ (stopped_retried _ _ _ _ _ c.before.before.before.before.before.before.before.before.before.before.requires.1 _ c.before.before.before.before.before.before.retried.ensures) _ c.before.before.before.before.before.before.before.before.before.before.args.arrived _ (sym c.before.before.before.before.before.turn.ensures ∙ c.before.before.before.packet.given.1),
     looked _ _ _ _ _ _ _ c.before.goal.ensures c.look.ensures,
   ),
 )
@@ -121,11 +121,11 @@ reroute_one_more_requires t c κs =
 
 reroute_returns_2 : (t : ℕ) → reroute-lts.Need-returns-2 (reroute_env t) (reroute_at t) reroute.Post
 reroute_returns_2 t c =
-    reroute-misses _ _ _ _ _ _ c.before.before.before.before.before.if1.false _ c.before.before.before.before.retried.ensures _ _ c.before.before.before.turn.ensures _ c.before.enum_told.given.1 c.ended2.ensures
+    reroute_misses _ _ _ _ _ _ c.before.before.before.before.before.if1.false _ c.before.before.before.before.retried.ensures _ _ c.before.before.before.turn.ensures _ c.before.enum_told.given.1 c.ended2.ensures
 
 reroute_returns_3 : (t : ℕ) → reroute-lts.Need-returns-3 (reroute_env t) (reroute_at t) reroute.Post
 reroute_returns_3 t c =
-    reroute-again _ _ _ _ _ _ c.before.before.before.before.before.before.before.before.before.if1.false _ c.before.before.before.before.before.before.before.before.retried.ensures _ _ c.before.before.before.before.before.before.before.turn.ensures _ c.before.before.before.before.before.packet.given.1 _ _ c.before.step_from.ensures c.one_more.ensures
+    reroute_again _ _ _ _ _ _ c.before.before.before.before.before.before.before.before.before.if1.false _ c.before.before.before.before.before.before.before.before.retried.ensures _ _ c.before.before.before.before.before.before.before.turn.ensures _ c.before.before.before.before.before.packet.given.1 _ _ c.before.step_from.ensures c.one_more.ensures
 
 step_from_enum_known_outlook : (t : ℕ) → step-from-lts.Need-enum-known-outlook (step_from_env t) (step_from_at t) step_from.Post
 step_from_enum_known_outlook t c = search rules
@@ -152,11 +152,11 @@ step_from_returns t c =
 
 step_from_returns_2 : (t : ℕ) → step-from-lts.Need-returns-2 (step_from_env t) (step_from_at t) step_from.Post
 step_from_returns_2 t c =
-    step-drops _ _ _ _ _ c.before.before.before.before.args.arrived _ c.before.before.before.before.requires.1.1 _ c.before.enum_told.given.1 c.ended.ensures
+    step_drops _ _ _ _ _ c.before.before.before.before.args.arrived _ c.before.before.before.before.requires.1.1 _ c.before.enum_told.given.1 c.ended.ensures
 
 step_from_returns_3 : (t : ℕ) → step-from-lts.Need-returns-3 (step_from_env t) (step_from_at t) step_from.Post
 step_from_returns_3 t c =
-    step-blocked _ _ _ _ _ c.before.before.before.before.before.args.arrived _ c.before.before.before.before.before.requires.1.1 _ _ c.before.before.outlook2.given.1 c.reroute.ensures
+    step_blocked _ _ _ _ _ c.before.before.before.before.before.args.arrived _ c.before.before.before.before.before.requires.1.1 _ _ c.before.before.outlook2.given.1 c.reroute.ensures
 
 pub +reroute-step-from-spec : {M : Type 1} → statement M
 +reroute-step-from-spec =

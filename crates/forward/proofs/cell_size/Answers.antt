@@ -4,12 +4,12 @@ use Prim.Native.Nat.{◌+◌, ◌*◌}
 use native.Mathlib.Omega.{arith}
 use Rattle.hall.proofs.Growth.{valid_known}
 use Rattle.local.specs.Local.{cell_size}
-use Rattle.local.proofs.Sizes.{size_switch, size_cell, size_fits, b-one}
+use Rattle.local.proofs.Sizes.{size_switch, size_cell, size_fits, b_one}
 use Rattle.forward.proofs.cell_size.Goals.{After-struct_known-3-1}
 use Rattle.forward.proofs.cell_size.Goals as goal
 
 whole : (c : After-struct_known-3-1) → let h = c.args.h in cell_size h ≡ (h.n + 1) * h.n
-whole c = let h = c.args.h in size_cell h (b-one h (valid_known h c.requires) c.if-h-eq0.false)
+whole c = let h = c.args.h in size_cell h (b_one h (valid_known h c.requires) c.if-h-eq0.false)
 
 pub returns-then-h-eq0 : goal.returns-then-h-eq0
 returns-then-h-eq0 c = sym (size_switch c.args.h c.if-h-eq0.true)

@@ -3,7 +3,7 @@ use mathlib.Core.Path.{◌∙◌}
 use borrow.Author.Tests.{not-true, not-false}
 use borrow.Author.Rules.{rules}
 use Rattle.forward.proofs.CodeSteps.{proxy_is}
-use Rattle.forward.proofs.CodeTables.{own_length, own_open, place-closed, neighbour-decides}
+use Rattle.forward.proofs.CodeTables.{own_length, own_open, place_closed, neighbour_decides}
 use Rattle.forward.proofs.is_up_at.Goals as goal
 
 pub is_open-requires : goal.is_open-requires
@@ -21,11 +21,11 @@ pub returns-then-not-is_up : goal.returns-then-not-is_up
 returns-then-not-is_up c =
     let a = c.requires in
     let f = c.is_up in
-    place-closed _ _ _ _ _ _ a.0 a.1 (not-false _ c.if-not-whole.false-raw) _ c.uid_at-near.ensures _ f.ensures (not-true f.result c.if-not-is_up.true-raw)
+    place_closed _ _ _ _ _ _ a.0 a.1 (not-false _ c.if-not-whole.false-raw) _ c.uid_at-near.ensures _ f.ensures (not-true f.result c.if-not-is_up.true-raw)
 
 pub returns : goal.returns
 returns c =
     let a = c.requires in
     let f = c.is_up in
-    neighbour-decides _ _ _ _ _ _ a.0 a.1 (not-false _ c.if-not-whole.false-raw) _ c.uid_at-near.ensures _ f.ensures (not-false f.result c.if-not-is_up.false-raw)
+    neighbour_decides _ _ _ _ _ _ a.0 a.1 (not-false _ c.if-not-whole.false-raw) _ c.uid_at-near.ensures _ f.ensures (not-false f.result c.if-not-is_up.false-raw)
     _ (proxy_is _ _ _ _ (record { above = a.1; fits = a.0.fits }) _ c.uid_at-near.ensures _ c.neighbour_of.ensures) _ c.is_up-2.ensures

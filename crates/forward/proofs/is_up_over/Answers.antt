@@ -5,8 +5,8 @@ use borrow.Author.Tests.{not-true, not-false}
 use borrow.Author.Rules.{rules}
 use Rattle.hall.proofs.Growth.{valid_known}
 use Rattle.local.specs.Local.{cell_size}
-use Rattle.local.proofs.Sizes.{size_pos, place-under}
-use Rattle.forward.proofs.CodeTables.{own_length, own_usable, near-closed, far-decides}
+use Rattle.local.proofs.Sizes.{size_pos, place_under}
+use Rattle.forward.proofs.CodeTables.{own_length, own_usable, near_closed, far_decides}
 use Rattle.forward.proofs.is_up_over.Goals.{After-cell_size}
 use Rattle.forward.proofs.is_up_over.Goals as goal
 
@@ -22,7 +22,7 @@ nonzero_rem-near c = omega (arith, size_pos _ (valid_known _ c.requires.here.sou
 pub is_open-requires : goal.is_open-requires
 is_open-requires c =
     let a = c.requires in (
-      record { sound = a.here.sound; inside = place-under _ (valid_known _ a.here.sound) _ _ (sized (goal.at.is_open-requires c).After-cell_size); low = a.low; high = a.high },
+      record { sound = a.here.sound; inside = place_under _ (valid_known _ a.here.sound) _ _ (sized (goal.at.is_open-requires c).After-cell_size); low = a.low; high = a.high },
       own_length _ _ _ _ a.here (not-true _ c.if-not-whole.true-raw),
     )
 
@@ -32,9 +32,9 @@ returns-then-not-whole c = c.is_open.ensures ∙ own_usable _ c.args.whole _ _ _
 pub returns-then-not-is_up : goal.returns-then-not-is_up
 returns-then-not-is_up c =
     let f = c.is_up in
-    near-closed _ _ _ _ _ _ c.requires (not-false _ c.if-not-whole.false-raw) _ f.ensures (not-true f.result c.if-not-is_up.true-raw)
+    near_closed _ _ _ _ _ _ c.requires (not-false _ c.if-not-whole.false-raw) _ f.ensures (not-true f.result c.if-not-is_up.true-raw)
 
 pub returns : goal.returns
 returns c =
     let f = c.is_up in
-    far-decides _ _ _ _ _ _ c.requires (not-false _ c.if-not-whole.false-raw) _ f.ensures (not-false f.result c.if-not-is_up.false-raw) _ c.is_up-2.ensures
+    far_decides _ _ _ _ _ _ c.requires (not-false _ c.if-not-whole.false-raw) _ f.ensures (not-false f.result c.if-not-is_up.false-raw) _ c.is_up-2.ensures

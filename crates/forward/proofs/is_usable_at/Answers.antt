@@ -2,14 +2,14 @@
 use mathlib.Core.Path.{sym, ◌∙◌}
 use borrow.Author.Rules.{rules}
 use borrow.Author.Tests.{not-true, not-false}
-use Rattle.forward.proofs.CodeTables.{placed_servers, place-shut, place_full, place-fitted}
+use Rattle.forward.proofs.CodeTables.{placed_servers, place_shut, place_full, place_fitted}
 use Rattle.forward.proofs.is_usable_at.Goals as goal
 
 pub returns-then-not-is_up_at : goal.returns-then-not-is_up_at
 returns-then-not-is_up_at c =
     let a = c.requires in
     let f = c.is_up_at in
-    place-shut _ _ _ _ _ _ _ a.0 a.1 f.ensures (not-true f.result c.if-not-is_up_at.true-raw)
+    place_shut _ _ _ _ _ _ _ a.0 a.1 f.ensures (not-true f.result c.if-not-is_up_at.true-raw)
 
 pub is_full-requires : goal.is_full-requires
 is_full-requires c = c.requires.0.sound
@@ -31,4 +31,4 @@ pub returns : goal.returns
 returns c =
     let a = c.requires in
     let f = c.is_up_at in
-    place-fitted _ _ _ _ _ _ _ a.0 a.1 f.ensures (not-false f.result c.if-not-is_up_at.false-raw) _ c.proxy_of.ensures _ c.are_fitted.ensures
+    place_fitted _ _ _ _ _ _ _ a.0 a.1 f.ensures (not-false f.result c.if-not-is_up_at.false-raw) _ c.proxy_of.ensures _ c.are_fitted.ensures

@@ -1,7 +1,7 @@
 -- `forward::refused_packet` meets its contract: it makes the tests in the order of refusals.
 use borrow.Author.Rules.{rules}
 use borrow.Author.Tests.{not-true, not-false}
-use Rattle.forward.proofs.CodeAsks.{refuses_uid, refuses_dst, refuses-proxy, refuses-retry, refuses_nothing}
+use Rattle.forward.proofs.CodeAsks.{refuses_uid, refuses_dst, refuses_proxy, refuses_retry, refuses_nothing}
 use Rattle.forward.proofs.refused_packet.Goals as goal
 
 pub returns-then-servers-uid : goal.returns-then-servers-uid
@@ -14,7 +14,7 @@ pub returns-then-not-proxy_fits : goal.returns-then-not-proxy_fits
 returns-then-not-proxy_fits c =
     let a = c.args in
     let f = c.proxy_fits in
-    refuses-proxy a.servers a.uid a.p _ f.ensures c.if-servers-uid.false c.if-servers-p.false (not-true f.result c.if-not-proxy_fits.true-raw)
+    refuses_proxy a.servers a.uid a.p _ f.ensures c.if-servers-uid.false c.if-servers-p.false (not-true f.result c.if-not-proxy_fits.true-raw)
 
 pub returns-then-p-gt-MOST_RETRY : goal.returns-then-p-gt-MOST_RETRY
 returns-then-p-gt-MOST_RETRY c =
@@ -22,7 +22,7 @@ returns-then-p-gt-MOST_RETRY c =
     let l = c.if-servers-uid.false in
     let m = c.if-servers-p.false in
     let a = c.args in
-    refuses-retry a.servers a.uid a.p _ f.ensures l m (not-false f.result c.if-not-proxy_fits.false-raw) c.if-p-gt-MOST_RETRY.true
+    refuses_retry a.servers a.uid a.p _ f.ensures l m (not-false f.result c.if-not-proxy_fits.false-raw) c.if-p-gt-MOST_RETRY.true
 
 pub returns : goal.returns
 returns c =

@@ -2,7 +2,7 @@
 use native.Mathlib.Omega.{arith}
 use borrow.Author.Rules.{rules}
 use Rattle.counted.specs.Counted.{counted}
-use Rattle.forward.proofs.CodeTrips.{Underway, departs_counted, here_whole, sets_off, step_few, ttl-falls, ends-journey, goes_on}
+use Rattle.forward.proofs.CodeTrips.{Underway, departs_counted, here_whole, sets_off, step_few, ttl_falls, ends_journey, goes_on_lem}
 use Rattle.forward.proofs.travel.Goals as goal
 
 pub loop-h-init : goal.loop-h-init
@@ -37,7 +37,7 @@ returns-then-o-ne-FORWARDED c =
     let a = c.args in
     let d = w.invariant.departing in
     let q = c.step_at-o.ensures in
-    ends-journey a.h (counted a.h 0 a.table.now) a.source a.packet w.uids w.me w.p w.reroutes w.at w.invariant c.step_at-o.result q c.if-o-ne-FORWARDED.true
+    ends_journey a.h (counted a.h 0 a.table.now) a.source a.packet w.uids w.me w.p w.reroutes w.at w.invariant c.step_at-o.result q c.if-o-ne-FORWARDED.true
 
 pub overflow_add-at : goal.overflow_add-at
 overflow_add-at c = let l = c.loop-h.invariant.left in omega arith
@@ -48,7 +48,7 @@ loop-h-smaller c =
     let a = c.args in
     let d = w.invariant.departing in
     let q = c.step_at-o.ensures in
-    let f = ttl-falls a.h (counted a.h 0 a.table.now) w.me w.p d c.step_at-o.result q c.if-o-ne-FORWARDED.false in
+    let f = ttl_falls a.h (counted a.h 0 a.table.now) w.me w.p d c.step_at-o.result q c.if-o-ne-FORWARDED.false in
     omega arith
 
 pub loop-h-preserved : goal.loop-h-preserved
@@ -57,4 +57,4 @@ loop-h-preserved c =
     let a = c.args in
     let d = w.invariant.departing in
     let q = c.step_at-o.ensures in
-    goes_on a.h (counted a.h 0 a.table.now) a.source a.packet w.uids w.me w.p w.reroutes w.at w.invariant c.step_at-o.result q c.if-o-ne-FORWARDED.false
+    goes_on_lem a.h (counted a.h 0 a.table.now) a.source a.packet w.uids w.me w.p w.reroutes w.at w.invariant c.step_at-o.result q c.if-o-ne-FORWARDED.false

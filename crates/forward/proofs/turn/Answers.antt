@@ -1,6 +1,6 @@
 -- `forward::turn` meets its contract: it goes by the link and by the choice as the definition does.
 use Rattle.forward.specs.Inside.{turn_of}
-use Rattle.forward.proofs.CodeSteps.{level_low, level-above, placed}
+use Rattle.forward.proofs.CodeSteps.{level_low, level_above, placed}
 use borrow.Author.Rules.{rules}
 use Rattle.forward.proofs.turn.Goals as goal
 
@@ -10,7 +10,7 @@ first_level-requires c = level_low _ _ _ _ _ c.requires _ _ _ c.in-Link.is
 pub choose-requires : goal.choose-requires
 choose-requires c =
     let a = c.requires in
-    (a.standing.here, level-above _ _ _ _ _ a _ _ _ c.in-Link.is _ _ c.first_level.ensures)
+    (a.standing.here, level_above _ _ _ _ _ a _ _ _ c.in-Link.is _ _ c.first_level.ensures)
 
 pub proxy_of-requires : goal.proxy_of-requires
 proxy_of-requires c =

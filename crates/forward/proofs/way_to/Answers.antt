@@ -1,5 +1,5 @@
 -- `forward::way_to` meets its contract: a next hop is found exactly where the target can be reached.
-use Rattle.forward.proofs.CodeWays.{hop_none, hop-some}
+use Rattle.forward.proofs.CodeWays.{hop_none, hop_some}
 use borrow.Author.Rules.{rules}
 use Rattle.forward.proofs.way_to.Goals as goal
 
@@ -7,4 +7,4 @@ pub returns-then-hop-eq0 : goal.returns-then-hop-eq0
 returns-then-hop-eq0 c = hop_none _ _ _ _ c.requires _ c.own_part.ensures _ c.next_hop-hop.ensures c.if-hop-eq0.true
 
 pub returns : goal.returns
-returns c = hop-some _ _ _ _ c.requires _ c.own_part.ensures _ c.next_hop-hop.ensures c.if-hop-eq0.false
+returns c = hop_some _ _ _ _ c.requires _ c.own_part.ensures _ c.next_hop-hop.ensures c.if-hop-eq0.false

@@ -3,7 +3,7 @@ use mathlib.Core.Path.{sym, ◌∙◌}
 use native.Mathlib.Omega.{arith}
 use borrow.Author.Tests.{not-true, not-false}
 use Rattle.frame.proofs.Rows.{words_fit}
-use Rattle.header.proofs.Written.{write_retry, write-address, write-short, write_done}
+use Rattle.header.proofs.Written.{write_retry, write_address, write_short, write_done}
 use borrow.Author.Rules.{rules}
 use Rattle.header.proofs.write_header.Goals as goal
 
@@ -14,7 +14,7 @@ pub returns-then-not-addresses_fit : goal.returns-then-not-addresses_fit
 returns-then-not-addresses_fit c =
     let it = let a = c.args in
     let r = c.addresses_fit in
-    write-address a.fields a.room.now c.if-fields-gt-MOST_RETRY.false (sym r.ensures ∙ not-true r.result c.if-not-addresses_fit.true-raw) in record { refusal = it.0; room = it.1 }
+    write_address a.fields a.room.now c.if-fields-gt-MOST_RETRY.false (sym r.ensures ∙ not-true r.result c.if-not-addresses_fit.true-raw) in record { refusal = it.0; room = it.1 }
 
 pub overflow_mul-count_of : goal.overflow_mul-count_of
 overflow_mul-count_of c =
@@ -25,7 +25,7 @@ pub returns-then-room-count_of : goal.returns-then-room-count_of
 returns-then-room-count_of c =
     let it = let a = c.args in
     let r = c.addresses_fit in
-    write-short a.fields a.room.now c.if-fields-gt-MOST_RETRY.false (sym r.ensures ∙ not-false r.result c.if-not-addresses_fit.false-raw)
+    write_short a.fields a.room.now c.if-fields-gt-MOST_RETRY.false (sym r.ensures ∙ not-false r.result c.if-not-addresses_fit.false-raw)
     (omega (arith, c.if-room-count_of.true, c.count_of.ensures)) in record { refusal = it.0; room = it.1 }
 
 pub returns : goal.returns

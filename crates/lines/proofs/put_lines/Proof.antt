@@ -2,7 +2,7 @@
 use mathlib.Core.Path.{◌∙◌}
 use Prim.Native.Nat.{◌-◌}
 use native.Mathlib.Omega.{arith}
-use Rattle.lines.proofs.Pieces.{Underway, starts, kept, goes_on, ends-full, ends_last}
+use Rattle.lines.proofs.Pieces.{Underway, starts, kept, goes_on, ends_full, ends_last}
 use borrow.Author.Rules.{rules}
 use Rattle.lines.proofs.put_lines.Statement.{statement}
 use Rattle.lines.proofs.put_lines.Tie as tie
@@ -32,7 +32,7 @@ returns c =
     let a = c.before.before.before.before.before.before.before.before.before.before.args in
     let l = c.before.before.before.before.before.before.before.loop in
     let w = c.before.before.before.before.line_at_lem in
-    ends-full a.sheet.now a.read a.room.now a.from a.count l.room l.next l.end l.invariant c.before.before.before.before.before.before.loop-test.true w.result w.new.0 w.ensures c.if1.true
+    ends_full a.sheet.now a.read a.room.now a.from a.count l.room l.next l.end l.invariant c.before.before.before.before.before.before.loop-test.true w.result w.new.0 w.ensures c.if1.true
 
 add-next : tie.Need-overflow-add-next invariant-loop decreases-loop
 add-next c = omega arith

@@ -2,7 +2,7 @@
 use mathlib.Core.Path.{sym, ◌∙◌, ap}
 use native.Mathlib.Omega.{arith}
 use Rattle.sheet.specs.declared.Sheet.{Sheet}
-use Rattle.lines.proofs.Pieces.{few_packets, piece-range, piece-short, piece-written}
+use Rattle.lines.proofs.Pieces.{few_packets, piece_range, piece_short, piece_written}
 use borrow.Author.Rules.{rules}
 use Rattle.lines.proofs.trace_piece.Statement.{statement}
 use Rattle.lines.proofs.trace_piece.Tie as tie
@@ -24,7 +24,7 @@ returns c =
     let a = c.before.before.before.before.before.before.args in
     let read = c.before.before.before.read-sheet in
     let count = c.before.before.line-count in
-    piece-range a.sheet.now a.from a.room.now read.result count.result read.ensures count.ensures _ c.before.if1.true c.refused-piece.ensures
+    piece_range a.sheet.now a.from a.room.now read.result count.result read.ensures count.ensures _ c.before.if1.true c.refused-piece.ensures
 
 put-lines-requires : tie.Need-put-lines-requires
 put-lines-requires c κs = search rules
@@ -41,7 +41,7 @@ returns-2 c =
     let read = c.before.before.before.before.before.before.before.before.before.read-sheet in
     let count = c.before.before.before.before.before.before.before.before.line-count in
     let p = c.before.before.before.before.before.put-lines in
-    piece-short a.sheet.now a.from a.room.now read.result count.result read.ensures count.ensures p.result p.new.0 (omega (arith, c.before.before.before.before.before.before.before.if1.false)) p.ensures c.before.if2.true _ c.refused-piece2.ensures
+    piece_short a.sheet.now a.from a.room.now read.result count.result read.ensures count.ensures p.result p.new.0 (omega (arith, c.before.before.before.before.before.before.before.if1.false)) p.ensures c.before.if2.true _ c.refused-piece2.ensures
 
 same-length-2 : tie.Need-same-length-2
 same-length-2 c = search rules
@@ -52,7 +52,7 @@ returns-3 c =
     let read = c.before.before.before.before.before.before.before.before.read-sheet in
     let count = c.before.before.before.before.before.before.before.line-count in
     let p = c.before.before.before.before.put-lines in
-    piece-written a.sheet.now a.from a.room.now read.result count.result read.ensures count.ensures p.result p.new.0 (omega (arith, c.before.before.before.before.before.before.if1.false)) p.ensures c.if2.false
+    piece_written a.sheet.now a.from a.room.now read.result count.result read.ensures count.ensures p.result p.new.0 (omega (arith, c.before.before.before.before.before.before.if1.false)) p.ensures c.if2.false
 
 pub trace-piece-spec : {M : Type 1} → statement M
 trace-piece-spec =

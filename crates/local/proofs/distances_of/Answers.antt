@@ -6,7 +6,7 @@ use borrow.Author.Rules.{rules}
 use Rattle.hall.proofs.Growth.{valid_known}
 use Rattle.hall.specs.Halls.{valid}
 use Rattle.local.specs.Local.{cell_size}
-use Rattle.local.proofs.Sizes.{cell_size_lem, size_pos, place-under}
+use Rattle.local.proofs.Sizes.{cell_size_lem, size_pos, place_under}
 use Rattle.local.proofs.Asks.{sound_hall, sound_one}
 use Rattle.local.proofs.Answers.{distances_refused, distances_told}
 use Rattle.local.proofs.distances_of.Goals.{After-size_of-count, Else-number-ne0}
@@ -41,7 +41,7 @@ pub distances_from-requires : goal.distances_from-requires
 distances_from-requires c =
     let a = c.args in
     let w = known (goal.at.distances_from-requires c).Else-number-ne0 in
-    (w, place-under a.h (valid_known a.h w) a.uid c.size_of-count.result (sized (goal.at.distances_from-requires c).After-size_of-count))
+    (w, place_under a.h (valid_known a.h w) a.uid c.size_of-count.result (sized (goal.at.distances_from-requires c).After-size_of-count))
 
 pub returns : goal.returns
 returns c =

@@ -3,7 +3,7 @@ use mathlib.Core.Path.{sym, ◌∙◌}
 use native.Mathlib.Omega.{arith}
 use borrow.Author.Rules.{rules}
 use Rattle.hall.proofs.Growth.{valid_known}
-use Rattle.local.proofs.Linked.{linked_switch, linked-none, linked-other, linked-over}
+use Rattle.local.proofs.Linked.{linked_switch, linked_none, linked_other, linked_over}
 use Rattle.local.proofs.Beside.{switch_low, place_in, across_is}
 use Rattle.local.proofs.is_linked.Goals as goal
 
@@ -17,7 +17,7 @@ returns-then-on_switch c =
 
 pub returns-then-h-eq0 : goal.returns-then-h-eq0
 returns-then-h-eq0 c =
-    linked-none c.args.h c.args.table.now (valid_known c.args.h c.requires.0) c.args.x c.args.y
+    linked_none c.args.h c.args.table.now (valid_known c.args.h c.requires.0) c.args.x c.args.y
     (sym c.on_switch.ensures ∙ c.if-on_switch.false) c.if-h-eq0.true
 
 pub nonzero_div-x : goal.nonzero_div-x
@@ -37,7 +37,7 @@ returns-then-neighbour_place-y c =
     let v = valid_known c.args.h c.requires.0 in
     let f = c.neighbour_place in
     let wide = c.if-h-eq0.false in
-    linked-other c.args.h c.args.table.now v c.args.x c.args.y
+    linked_other c.args.h c.args.table.now v c.args.x c.args.y
     (sym c.on_switch.ensures ∙ c.if-on_switch.false)
     f.result (across_is c.args.h c.args.table.now v wide c.args.x c.requires.1 f.result f.ensures) wide c.if-neighbour_place-y.true
 
@@ -47,6 +47,6 @@ returns c =
     let f = c.neighbour_place in
     let wide = c.if-h-eq0.false in
     c.both_up-2.ensures
-    ∙ linked-over c.args.h c.args.table.now v c.args.x c.args.y
+    ∙ linked_over c.args.h c.args.table.now v c.args.x c.args.y
     (sym c.on_switch.ensures ∙ c.if-on_switch.false)
     f.result (across_is c.args.h c.args.table.now v wide c.args.x c.requires.1 f.result f.ensures) wide c.if-neighbour_place-y.false

@@ -2,8 +2,8 @@
 use native.Mathlib.Omega.{arith}
 use borrow.Author.Rules.{rules}
 use Rattle.hall.proofs.Growth.{valid_known}
-use Rattle.local.proofs.Sizes.{size_fits, switch_fits, neighbour-fits}
-use Rattle.local.proofs.Rounds.{new-marked, new-live, new_apart, new-linked}
+use Rattle.local.proofs.Sizes.{size_fits, switch_fits, neighbour_fits}
+use Rattle.local.proofs.Rounds.{new_marked, new_live, new_apart, new_linked}
 use Rattle.local.proofs.is_new.Goals as goal
 
 pub overflow_mul-x : goal.overflow_mul-x
@@ -20,11 +20,11 @@ bounds-d-at c = omega (arith, size_fits c.args.h (valid_known c.args.h c.require
 
 pub returns-then-d-at : goal.returns-then-d-at
 returns-then-d-at c =
-    new-marked _ _ (valid_known _ c.requires.0) _ _ c.requires.1 _ _ c.requires.2 c.requires.3 _ c.requires.4 c.if-d-at.true
+    new_marked _ _ (valid_known _ c.requires.0) _ _ c.requires.1 _ _ c.requires.2 c.requires.3 _ c.requires.4 c.if-d-at.true
 
 pub returns-then-by_switch : goal.returns-then-by_switch
 returns-then-by_switch c =
-    new-live _ _ (valid_known _ c.requires.0) _ _ c.requires.1 _ _ c.requires.2 c.requires.3 _ c.requires.4 c.if-d-at.false
+    new_live _ _ (valid_known _ c.requires.0) _ _ c.requires.1 _ _ c.requires.2 c.requires.3 _ c.requires.4 c.if-d-at.false
     c.by_switch.result c.by_switch.ensures c.if-by_switch.true
 
 pub returns-then-h-eq0 : goal.returns-then-h-eq0
@@ -39,10 +39,10 @@ neighbour_place-requires c =
 
 pub over_link-requires : goal.over_link-requires
 over_link-requires c =
-    rw c.neighbour_place.ensures (neighbour-fits c.args.h (valid_known c.args.h c.requires.0) _ c.requires.3 c.if-h-eq0.false)
+    rw c.neighbour_place.ensures (neighbour_fits c.args.h (valid_known c.args.h c.requires.0) _ c.requires.3 c.if-h-eq0.false)
 
 pub returns : goal.returns
 returns c =
-    new-linked _ _ (valid_known _ c.requires.0) _ _ c.requires.1 _ _ c.requires.2 c.requires.3 _ c.requires.4 c.if-d-at.false
+    new_linked _ _ (valid_known _ c.requires.0) _ _ c.requires.1 _ _ c.requires.2 c.requires.3 _ c.requires.4 c.if-d-at.false
     c.by_switch.result c.by_switch.ensures c.if-by_switch.false
     c.if-h-eq0.false _ _ c.neighbour_place.ensures c.over_link.ensures

@@ -4,7 +4,7 @@ use Prim.Native.Nat.{ℕ, ◌≤◌, ◌-◌}
 use native.Mathlib.Omega.{arith}
 use Rattle.local.specs.Lowest.{lowest_from}
 use Rattle.local.specs.Looks.{gives_by}
-use Rattle.local.proofs.Lowest.{lowest-here, lowest-next, lowest-end}
+use Rattle.local.proofs.Lowest.{lowest_here, lowest_next, lowest_end}
 use Rattle.local.proofs.lowest_giving.Goals as goal
 
 pub loop-z-init : goal.loop-z-init
@@ -17,16 +17,16 @@ pub returns-then-gives : goal.returns-then-gives
 returns-then-gives c =
     let a = c.args in
     let w = c.loop-z in
-    sym (lowest-here (gives_by a.h a.table.now a.d.now a.r a.s) _ w.z c.loop-z-test.true (sym c.gives.ensures ∙ c.if-gives.true)) ∙ w.invariant.1
+    sym (lowest_here (gives_by a.h a.table.now a.d.now a.r a.s) _ w.z c.loop-z-test.true (sym c.gives.ensures ∙ c.if-gives.true)) ∙ w.invariant.1
 
 pub loop-z-preserved : goal.loop-z-preserved
 loop-z-preserved c =
     let a = c.args in
     let w = c.loop-z in
-    (omega arith, lowest-next (gives_by a.h a.table.now a.d.now a.r a.s) _ w.z c.loop-z-test.true (sym c.gives.ensures ∙ c.if-gives.false) ∙ w.invariant.1)
+    (omega arith, lowest_next (gives_by a.h a.table.now a.d.now a.r a.s) _ w.z c.loop-z-test.true (sym c.gives.ensures ∙ c.if-gives.false) ∙ w.invariant.1)
 
 pub returns : goal.returns
 returns c =
     let a = c.args in
     let w = c.loop-z in
-    sym (lowest-end (gives_by a.h a.table.now a.d.now a.r a.s) _ w.z c.loop-z-test.false) ∙ w.invariant.1
+    sym (lowest_end (gives_by a.h a.table.now a.d.now a.r a.s) _ w.z c.loop-z-test.false) ∙ w.invariant.1

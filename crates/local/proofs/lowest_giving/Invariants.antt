@@ -4,7 +4,7 @@ use Prim.Native.Nat.{ℕ, ◌≤◌, ◌-◌}
 use native.Mathlib.Omega.{arith}
 use Rattle.local.specs.Lowest.{lowest_from}
 use Rattle.local.specs.Looks.{gives_by}
-use Rattle.local.proofs.Lowest.{lowest-here, lowest-next, lowest-end}
+use Rattle.local.proofs.Lowest.{lowest_here, lowest_next, lowest_end}
 use Rattle.local.proofs.lowest_giving.Given as goal
 
 abbrev pub invariant-loop-z : goal.invariant-loop-z

@@ -2,7 +2,7 @@
 use native.Mathlib.Omega.{arith}
 use Rattle.hall.proofs.Growth.{valid_known}
 use Rattle.local.proofs.Sizes.{size_fits}
-use Rattle.local.proofs.Beside.{switch_low, place_in, across_is, across_in, across-found, across-missing}
+use Rattle.local.proofs.Beside.{switch_low, place_in, across_is, across_in, across_found, across_missing}
 use Rattle.local.proofs.met_across.Goals as goal
 
 pub nonzero_div-x : goal.nonzero_div-x
@@ -29,7 +29,7 @@ returns-then-over_link c =
     let f = c.neighbour_place-y in
     let g = c.over_link in
     let is = across_is c.args.h c.args.table.now v c.requires.1 c.args.x c.requires.2 f.result f.ensures in
-    across-found c.args.h c.args.table.now v c.requires.1 c.args.x c.requires.2 c.args.d.now c.args.r c.args.count c.requires.3 f.result g.result is g.ensures
+    across_found c.args.h c.args.table.now v c.requires.1 c.args.x c.requires.2 c.args.d.now c.args.r c.args.count c.requires.3 f.result g.result is g.ensures
     (across_in c.args.h c.args.table.now v c.requires.1 c.args.x c.requires.2 f.result is) c.if-over_link.true
 
 pub returns : goal.returns
@@ -38,4 +38,4 @@ returns c =
     let f = c.neighbour_place-y in
     let g = c.over_link in
     let is = across_is c.args.h c.args.table.now v c.requires.1 c.args.x c.requires.2 f.result f.ensures in
-    across-missing c.args.h c.args.table.now v c.requires.1 c.args.x c.requires.2 c.args.d.now c.args.r c.args.count c.requires.3 f.result g.result is g.ensures c.if-over_link.false
+    across_missing c.args.h c.args.table.now v c.requires.1 c.args.x c.requires.2 c.args.d.now c.args.r c.args.count c.requires.3 f.result g.result is g.ensures c.if-over_link.false

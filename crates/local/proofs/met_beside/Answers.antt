@@ -5,14 +5,14 @@ use borrow.Author.Rules.{rules}
 use borrow.Author.Tests.{not-true, not-false}
 use Rattle.hall.proofs.Growth.{valid_known}
 use Rattle.local.proofs.Sizes.{size_fits}
-use Rattle.local.proofs.Beside.{switch_whole, beside-down, beside-found, beside-missing}
+use Rattle.local.proofs.Beside.{switch_whole, beside_down, beside_found, beside_missing}
 use Rattle.local.proofs.met_beside.Goals as goal
 
 pub returns-then-not-is_up : goal.returns-then-not-is_up
 returns-then-not-is_up c =
     let v = valid_known c.args.h c.requires.0 in
     let f = c.is_up in
-    beside-down c.args.h c.args.table.now v c.requires.1 c.args.x c.requires.2 c.args.d.now c.args.r c.args.count c.requires.3
+    beside_down c.args.h c.args.table.now v c.requires.1 c.args.x c.requires.2 c.args.d.now c.args.r c.args.count c.requires.3
     (sym f.ensures ∙ not-true f.result c.if-not-is_up.true-raw)
 
 pub nonzero_div-s : goal.nonzero_div-s
@@ -38,11 +38,11 @@ returns-then-i-h c =
     let v = valid_known c.args.h c.requires.0 in
     let f = c.is_up in
     let g = c.lowest_giving-i in
-    beside-found c.args.h c.args.table.now v c.requires.1 c.args.x c.requires.2 c.args.d.now c.args.r c.args.count c.requires.3 g.result g.ensures c.if-i-h.true c.requires.4
+    beside_found c.args.h c.args.table.now v c.requires.1 c.args.x c.requires.2 c.args.d.now c.args.r c.args.count c.requires.3 g.result g.ensures c.if-i-h.true c.requires.4
     (sym f.ensures ∙ not-false f.result c.if-not-is_up.false-raw)
 
 pub returns : goal.returns
 returns c =
     let v = valid_known c.args.h c.requires.0 in
     let g = c.lowest_giving-i in
-    beside-missing c.args.h c.args.table.now v c.requires.1 c.args.x c.requires.2 c.args.d.now c.args.r c.args.count c.requires.3 g.result g.ensures c.if-i-h.false
+    beside_missing c.args.h c.args.table.now v c.requires.1 c.args.x c.requires.2 c.args.d.now c.args.r c.args.count c.requires.3 g.result g.ensures c.if-i-h.false

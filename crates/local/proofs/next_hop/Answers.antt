@@ -4,9 +4,9 @@ use native.Mathlib.Omega.{arith}
 use borrow.Author.Rules.{rules}
 use Rattle.hall.proofs.Growth.{valid_known}
 use Rattle.local.specs.Local.{cell_size}
-use Rattle.local.proofs.Sizes.{cell_size_lem, size_pos, place-under}
+use Rattle.local.proofs.Sizes.{cell_size_lem, size_pos, place_under}
 use Rattle.local.proofs.Asks.{sound_two}
-use Rattle.local.proofs.Answers.{one_cell, two_cells, uid_in_cell, hop_refused, hop_outside, hop-found, hop-missing}
+use Rattle.local.proofs.Answers.{one_cell, two_cells, uid_in_cell, hop_refused, hop_outside, hop_found, hop_missing}
 use Rattle.local.proofs.next_hop.Goals.{After-size_of-count}
 use Rattle.local.proofs.next_hop.Goals as goal
 
@@ -65,7 +65,7 @@ hop_place-z-requires c =
     let s = sound_two a.h a.table.now a.uid a.target c.refused_two-number.result c.refused_two-number.ensures c.if-number-ne0.false in
     let v = valid_known a.h s.is_valid in
     let f = c.size_of-count in
-    (s.is_valid, place-under a.h v a.uid f.result (sized (goal.at.hop_place-z-requires c).After-size_of-count), place-under a.h v a.target f.result (sized (goal.at.hop_place-z-requires c).After-size_of-count))
+    (s.is_valid, place_under a.h v a.uid f.result (sized (goal.at.hop_place-z-requires c).After-size_of-count), place_under a.h v a.target f.result (sized (goal.at.hop_place-z-requires c).After-size_of-count))
 
 pub overflow_mul-next : goal.overflow_mul-next
 overflow_mul-next c =
@@ -86,7 +86,7 @@ returns-then-z-count c =
     let a = c.args in
     let r = c.refused_two-number in
     let f = c.size_of-count in
-    hop-found a.h a.uid a.target a.table.now r.result r.ensures c.if-number-ne0.false
+    hop_found a.h a.uid a.target a.table.now r.result r.ensures c.if-number-ne0.false
     (one_cell a.h f.result a.uid a.target (sized (goal.at.returns-then-z-count c).After-size_of-count) c.if-target-count.false) f.result c.hop_place-z.result (sized (goal.at.returns-then-z-count c).After-size_of-count) _ c.own_codes.ensures c.hop_place-z.ensures c.if-z-count.true
 
 pub returns : goal.returns
@@ -94,5 +94,5 @@ returns c =
     let a = c.args in
     let r = c.refused_two-number in
     let f = c.size_of-count in
-    hop-missing a.h a.uid a.target a.table.now r.result r.ensures c.if-number-ne0.false
+    hop_missing a.h a.uid a.target a.table.now r.result r.ensures c.if-number-ne0.false
     (one_cell a.h f.result a.uid a.target (sized (goal.at.returns c).After-size_of-count) c.if-target-count.false) f.result c.hop_place-z.result (sized (goal.at.returns c).After-size_of-count) _ c.own_codes.ensures c.hop_place-z.ensures c.if-z-count.false

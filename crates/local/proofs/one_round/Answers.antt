@@ -9,11 +9,11 @@ use Rattle.combine.specs.Tests.{either, any_below}
 use Rattle.hall.proofs.Growth.{valid_known}
 use Rattle.ports.specs.Links.{switch_has}
 use Rattle.search.specs.Rounds.{new}
-use Rattle.search.proofs.InPlace.{filled, fill-new, fill-old, any-new, any-old}
+use Rattle.search.proofs.InPlace.{filled, fill_new, fill_old, any_new, any_old}
 use Rattle.local.specs.Local.{none, cell_size, linked}
 use Rattle.local.specs.Looks.{reached_by}
-use Rattle.local.proofs.Sizes.{size_fits, switch-below, place-below}
-use Rattle.local.proofs.Rounds.{round_starts, round_starts_any, filled_length, live_on, switch-starts, switch-starts-any, switch-ends, switch-ends-any}
+use Rattle.local.proofs.Sizes.{size_fits, switch_below, place_below}
+use Rattle.local.proofs.Rounds.{round_starts, round_starts_any, filled_length, live_on, switch_starts, switch_starts_any, switch_ends, switch_ends_any}
 use Rattle.local.proofs.one_round.Goals.{then-is_new, else-is_new}
 use Rattle.local.proofs.one_round.Goals as goal
 
@@ -32,19 +32,19 @@ loop-s-init c =
 pub is_live-live-requires : goal.is_live-live-requires
 is_live-live-requires c =
     let v = valid_known c.args.h c.requires.0 in
-    omega (arith, size_fits c.args.h v, switch-below c.args.h v _ _ c.switches-count.ensures c.loop-s-test.true)
+    omega (arith, size_fits c.args.h v, switch_below c.args.h v _ _ c.switches-count.ensures c.loop-s-test.true)
 
 pub loop-i-init : goal.loop-i-init
 loop-i-init c =
     let w = c.loop-s in
     let v = valid_known c.args.h c.requires.0 in
     let x : ℕ = w.s * c.args.h.n in
-    let k : x ≤ 72 = omega (arith, size_fits c.args.h v, switch-below c.args.h v _ _ c.switches-count.ensures c.loop-s-test.true) in (
+    let k : x ≤ 72 = omega (arith, size_fits c.args.h v, switch_below c.args.h v _ _ c.switches-count.ensures c.loop-s-test.true) in (
       omega arith,
       filled_length c.args.h c.args.table.now c.args.r c.args.d.now x w.d w.invariant.2 w.invariant.1 k,
       c.is_live-live.ensures,
-      switch-starts c.args.h c.args.table.now c.args.r c.args.d.now (omega arith) x w.d w.invariant.2 (x + 0) (omega arith),
-      switch-starts-any c.args.h c.args.table.now c.args.r c.args.d.now (omega arith) x w.d w.invariant.2 (x + 0) w.any (omega arith),
+      switch_starts c.args.h c.args.table.now c.args.r c.args.d.now (omega arith) x w.d w.invariant.2 (x + 0) (omega arith),
+      switch_starts_any c.args.h c.args.table.now c.args.r c.args.d.now (omega arith) x w.d w.invariant.2 (x + 0) w.any (omega arith),
     )
 
 pub is_new-requires : goal.is_new-requires
@@ -54,29 +54,29 @@ is_new-requires c =
       c.requires.0,
       omega arith,
       c.loop-i-test.true,
-      place-below c.args.h v _ _ _ c.switches-count.ensures c.loop-s-test.true c.loop-i-test.true,
+      place_below c.args.h v _ _ _ c.switches-count.ensures c.loop-s-test.true c.loop-i-test.true,
       live_on c.args.h c.args.table.now c.args.r _ (omega arith) _ _ w.d _ w.invariant.3 w.invariant.2,
     )
 
 pub overflow_mul-at : goal.overflow_mul-at
 overflow_mul-at c =
     let v = valid_known c.args.h c.requires.0 in
-    omega (arith, size_fits c.args.h v, place-below c.args.h v c.switches-count.result c.loop-s.s c.loop-i.i c.switches-count.ensures c.loop-s-test.true c.loop-i-test.true)
+    omega (arith, size_fits c.args.h v, place_below c.args.h v c.switches-count.result c.loop-s.s c.loop-i.i c.switches-count.ensures c.loop-s-test.true c.loop-i-test.true)
 
 pub overflow_add-at : goal.overflow_add-at
 overflow_add-at c =
     let v = valid_known c.args.h c.requires.0 in
-    omega (arith, size_fits c.args.h v, place-below c.args.h v c.switches-count.result c.loop-s.s c.loop-i.i c.switches-count.ensures c.loop-s-test.true c.loop-i-test.true)
+    omega (arith, size_fits c.args.h v, place_below c.args.h v c.switches-count.result c.loop-s.s c.loop-i.i c.switches-count.ensures c.loop-s-test.true c.loop-i-test.true)
 
 pub overflow_cast-at : goal.overflow_cast-at
 overflow_cast-at c =
     let v = valid_known c.args.h c.requires.0 in
-    omega (arith, size_fits c.args.h v, place-below c.args.h v c.switches-count.result c.loop-s.s c.loop-i.i c.switches-count.ensures c.loop-s-test.true c.loop-i-test.true)
+    omega (arith, size_fits c.args.h v, place_below c.args.h v c.switches-count.result c.loop-s.s c.loop-i.i c.switches-count.ensures c.loop-s-test.true c.loop-i-test.true)
 
 pub bounds-d-at : goal.bounds-d-at
 bounds-d-at c =
     let v = valid_known c.args.h c.requires.0 in
-    omega (arith, size_fits c.args.h v, place-below c.args.h v c.switches-count.result c.loop-s.s c.loop-i.i c.switches-count.ensures c.loop-s-test.true c.loop-i-test.true)
+    omega (arith, size_fits c.args.h v, place_below c.args.h v c.switches-count.result c.loop-s.s c.loop-i.i c.switches-count.ensures c.loop-s-test.true c.loop-i-test.true)
 
 pub loop-i-preserved : goal.loop-i-preserved
 loop-i-preserved c =
@@ -87,20 +87,20 @@ loop-i-preserved c =
       arith,
       w.invariant.1,
       size_fits c.args.h (valid_known c.args.h c.requires.0),
-      place-below c.args.h (valid_known c.args.h c.requires.0) _ _ _ c.switches-count.ensures c.loop-s-test.true c.loop-i-test.true,
+      place_below c.args.h (valid_known c.args.h c.requires.0) _ _ _ c.switches-count.ensures c.loop-s-test.true c.loop-i-test.true,
     ) in (
       omega arith,
       w.invariant.1,
       w.invariant.2,
       rw (sym e)
           (elim c.if-is_new.branch [
-            | then-is_new b ↦ b.d-is ∙ fill-new (linked c.args.h c.args.table.now) (cell_size c.args.h) none c.args.r _ (omega arith) x w.d _ w.invariant.3 c.is_new.ensures k b.if-is_new.true
-            | else-is_new b ↦ b.d-is ∙ fill-old (linked c.args.h c.args.table.now) (cell_size c.args.h) none c.args.r _ (omega arith) x w.d _ w.invariant.3 c.is_new.ensures k b.if-is_new.false
+            | then-is_new b ↦ b.d-is ∙ fill_new (linked c.args.h c.args.table.now) (cell_size c.args.h) none c.args.r _ (omega arith) x w.d _ w.invariant.3 c.is_new.ensures k b.if-is_new.true
+            | else-is_new b ↦ b.d-is ∙ fill_old (linked c.args.h c.args.table.now) (cell_size c.args.h) none c.args.r _ (omega arith) x w.d _ w.invariant.3 c.is_new.ensures k b.if-is_new.false
           ]),
       rw (sym e)
           (elim c.if-is_new.branch [
-            | then-is_new b ↦ b.any-is ∙ any-new (linked c.args.h c.args.table.now) (cell_size c.args.h) none c.args.r _ (omega arith) x w.d _ w.invariant.3 c.is_new.ensures k c.loop-s.any b.if-is_new.true
-            | else-is_new b ↦ b.any-is ∙ any-old (linked c.args.h c.args.table.now) (cell_size c.args.h) none c.args.r _ (omega arith) x w.d _ w.invariant.3 c.is_new.ensures k c.loop-s.any w.any w.invariant.4 b.if-is_new.false
+            | then-is_new b ↦ b.any-is ∙ any_new (linked c.args.h c.args.table.now) (cell_size c.args.h) none c.args.r _ (omega arith) x w.d _ w.invariant.3 c.is_new.ensures k c.loop-s.any b.if-is_new.true
+            | else-is_new b ↦ b.any-is ∙ any_old (linked c.args.h c.args.table.now) (cell_size c.args.h) none c.args.r _ (omega arith) x w.d _ w.invariant.3 c.is_new.ensures k c.loop-s.any w.any w.invariant.4 b.if-is_new.false
           ]),
     )
 
@@ -111,8 +111,8 @@ loop-s-preserved c =
     let e : (o.s + 1) * c.args.h.n ≡ o.s * c.args.h.n + w.i = omega arith in (
       omega arith,
       o.invariant.1,
-      rw e (switch-ends c.args.h c.args.table.now c.args.r c.args.d.now (omega arith) (o.s * c.args.h.n) o.d o.invariant.2 (o.s * c.args.h.n + w.i) w.d (omega arith) w.invariant.3),
-      rw e (switch-ends-any c.args.h c.args.table.now c.args.r c.args.d.now (omega arith) (o.s * c.args.h.n) o.d o.invariant.2 (o.s * c.args.h.n + w.i) o.any w.any (omega arith) o.invariant.3 w.invariant.4),
+      rw e (switch_ends c.args.h c.args.table.now c.args.r c.args.d.now (omega arith) (o.s * c.args.h.n) o.d o.invariant.2 (o.s * c.args.h.n + w.i) w.d (omega arith) w.invariant.3),
+      rw e (switch_ends_any c.args.h c.args.table.now c.args.r c.args.d.now (omega arith) (o.s * c.args.h.n) o.d o.invariant.2 (o.s * c.args.h.n + w.i) o.any w.any (omega arith) o.invariant.3 w.invariant.4),
     )
 
 pub returns : goal.returns

@@ -9,11 +9,11 @@ use Rattle.combine.specs.Tests.{either, any_below}
 use Rattle.hall.proofs.Growth.{valid_known}
 use Rattle.ports.specs.Links.{switch_has}
 use Rattle.search.specs.Rounds.{new}
-use Rattle.search.proofs.InPlace.{filled, fill-new, fill-old, any-new, any-old}
+use Rattle.search.proofs.InPlace.{filled, fill_new, fill_old, any_new, any_old}
 use Rattle.local.specs.Local.{none, cell_size, linked}
 use Rattle.local.specs.Looks.{reached_by}
-use Rattle.local.proofs.Sizes.{size_fits, switch-below, place-below}
-use Rattle.local.proofs.Rounds.{round_starts, round_starts_any, filled_length, live_on, switch-starts, switch-starts-any, switch-ends, switch-ends-any}
+use Rattle.local.proofs.Sizes.{size_fits, switch_below, place_below}
+use Rattle.local.proofs.Rounds.{round_starts, round_starts_any, filled_length, live_on, switch_starts, switch_starts_any, switch_ends, switch_ends_any}
 use Rattle.local.proofs.one_round.Given as goal
 
 abbrev pub invariant-loop-i : goal.invariant-loop-i

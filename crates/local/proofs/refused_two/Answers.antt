@@ -1,6 +1,6 @@
 -- `local::refused_two` meets its contract: what is refused of the first uid is refused, else the second decides.
 use borrow.Author.Rules.{rules}
-use Rattle.local.proofs.Asks.{refuses_first, refuses-second, refuses-neither}
+use Rattle.local.proofs.Asks.{refuses_first, refuses_second, refuses_neither}
 use Rattle.local.proofs.refused_two.Goals as goal
 
 pub returns-then-number-ne0 : goal.returns-then-number-ne0
@@ -14,11 +14,11 @@ returns-then-servers-target c =
     let a = c.args in
     let f = c.refused_among-number in
     let s = c.servers_of-servers in
-    refuses-second a.h a.table.now a.uid a.target f.result f.ensures c.if-number-ne0.false s.result s.ensures c.if-servers-target.true
+    refuses_second a.h a.table.now a.uid a.target f.result f.ensures c.if-number-ne0.false s.result s.ensures c.if-servers-target.true
 
 pub returns : goal.returns
 returns c =
     let a = c.args in
     let f = c.refused_among-number in
     let s = c.servers_of-servers in
-    refuses-neither a.h a.table.now a.uid a.target f.result f.ensures c.if-number-ne0.false s.result s.ensures c.if-servers-target.false
+    refuses_neither a.h a.table.now a.uid a.target f.result f.ensures c.if-number-ne0.false s.result s.ensures c.if-servers-target.false

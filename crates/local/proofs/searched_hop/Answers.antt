@@ -15,7 +15,7 @@ use Rattle.search.proofs.Loop.{loop_more}
 use Rattle.local.specs.Local.{places, none, cell_size, linked}
 use Rattle.local.proofs.Sizes.{cell_size_lem, size_fits}
 use Rattle.local.proofs.Rounds.{record_start, record_length}
-use Rattle.local.proofs.Meets.{starts_unmet, unmet_next, unmet_before, unmet-reads, hop_full, hop-idle, hop-met, still-unmet}
+use Rattle.local.proofs.Meets.{starts_unmet, unmet_next, unmet_before, unmet_reads, hop_full, hop_idle, hop_met, still_unmet}
 use Rattle.local.proofs.searched_hop.Goals.{After-size_of-count}
 use Rattle.local.proofs.searched_hop.Goals as goal
 
@@ -50,7 +50,7 @@ returns-then-not-one_round c =
     let w = c.loop-rounds in
     let f = c.one_round in
     let e = sized (goal.at.returns-then-not-one_round c).After-size_of-count in
-    e ∙ hop-idle c.args.h c.args.table.now v c.args.x c.args.y c.requires.1 c.requires.2 w.rounds w.d w.invariant.1
+    e ∙ hop_idle c.args.h c.args.table.now v c.args.x c.args.y c.requires.1 c.requires.2 w.rounds w.d w.invariant.1
     (unmet_before c.args.h c.args.table.now v c.args.x c.args.y c.requires.1 c.requires.2 w.rounds w.invariant.2)
     (omega (arith, e)) (sym f.ensures.reaches ∙ not-true f.result c.if-not-one_round.true-raw)
 
@@ -67,7 +67,7 @@ lowest_met-z-requires c =
       c.requires.5,
       c.requires.1,
       e,
-      unmet-reads c.args.h c.args.table.now v c.args.x c.args.y c.requires.1 c.requires.2 (w.rounds + 1) _
+      unmet_reads c.args.h c.args.table.now v c.args.x c.args.y c.requires.1 c.requires.2 (w.rounds + 1) _
           (loop_more (linked c.args.h c.args.table.now) (cell_size c.args.h) none c.args.y (replicate (places - cell_size c.args.h) none) w.rounds w.d _ w.invariant.1 c.one_round.ensures.writes)
           (unmet_next c.args.h c.args.table.now v c.args.x c.args.y c.requires.1 c.requires.2 w.rounds w.invariant.2)
           (omega (arith, e, size_fits c.args.h v)),
@@ -78,7 +78,7 @@ returns-then-z-count c =
     let v = valid_known c.args.h c.requires.0 in
     let w = c.loop-rounds in
     let e = sized (goal.at.returns-then-z-count c).After-size_of-count in
-    hop-met c.args.h c.args.table.now v c.args.x c.args.y c.requires.1 c.requires.2 (w.rounds + 1) _
+    hop_met c.args.h c.args.table.now v c.args.x c.args.y c.requires.1 c.requires.2 (w.rounds + 1) _
     (loop_more (linked c.args.h c.args.table.now) (cell_size c.args.h) none c.args.y (replicate (places - cell_size c.args.h) none) w.rounds w.d _ w.invariant.1 c.one_round.ensures.writes)
     (unmet_next c.args.h c.args.table.now v c.args.x c.args.y c.requires.1 c.requires.2 w.rounds w.invariant.2)
     (omega (arith, e, size_fits c.args.h v)) _ c.lowest_met-z.ensures (omega (arith, e))
@@ -91,7 +91,7 @@ loop-rounds-preserved c =
     let more = loop_more (linked c.args.h c.args.table.now) (cell_size c.args.h) none c.args.y (replicate (places - cell_size c.args.h) none) w.rounds w.d _ w.invariant.1 c.one_round.ensures.writes in (
       omega arith,
       more,
-      still-unmet c.args.h c.args.table.now v c.args.x c.args.y c.requires.1 c.requires.2 (w.rounds + 1) _ more
+      still_unmet c.args.h c.args.table.now v c.args.x c.args.y c.requires.1 c.requires.2 (w.rounds + 1) _ more
           (unmet_next c.args.h c.args.table.now v c.args.x c.args.y c.requires.1 c.requires.2 w.rounds w.invariant.2)
           (omega (arith, e, size_fits c.args.h v)) _ c.lowest_met-z.ensures (omega (arith, e)),
     )

@@ -15,7 +15,7 @@ use Rattle.search.proofs.Loop.{loop_more}
 use Rattle.local.specs.Local.{places, none, cell_size, linked}
 use Rattle.local.proofs.Sizes.{cell_size_lem, size_fits}
 use Rattle.local.proofs.Rounds.{record_start, record_length}
-use Rattle.local.proofs.Meets.{starts_unmet, unmet_next, unmet_before, unmet-reads, hop_full, hop-idle, hop-met, still-unmet}
+use Rattle.local.proofs.Meets.{starts_unmet, unmet_next, unmet_before, unmet_reads, hop_full, hop_idle, hop_met, still_unmet}
 use Rattle.local.proofs.searched_hop.Given as goal
 
 abbrev pub invariant-loop-rounds : goal.invariant-loop-rounds

@@ -5,7 +5,7 @@ use mathlib.Core.Bool.{true}
 use borrow.Author.Rules.{rules}
 use Rattle.hall.specs.Halls.{valid}
 use Rattle.hall.proofs.Growth.{valid_known}
-use Rattle.plan.proofs.Asks.{no_hall, some_hall, count-servers, first_decides}
+use Rattle.plan.proofs.Asks.{no_hall, some_hall, count_servers, first_decides}
 use Rattle.plan.proofs.is_fitted.Goals.{Else-size_of-eq0}
 use Rattle.plan.proofs.is_fitted.Goals as goal
 
@@ -19,7 +19,7 @@ pub first_fitted-requires : goal.first_fitted-requires
 first_fitted-requires c = (valid_known _ (known (goal.at.first_fitted-requires c).Else-size_of-eq0)).n_high
 
 pub servers_in-requires : goal.servers_in-requires
-servers_in-requires c = let v = known (goal.at.servers_in-requires c).Else-size_of-eq0 in ((valid_known _ v).n_high, count-servers _ v)
+servers_in-requires c = let v = known (goal.at.servers_in-requires c).Else-size_of-eq0 in ((valid_known _ v).n_high, count_servers _ v)
 
 pub returns-then-first_fitted : goal.returns-then-first_fitted
 returns-then-first_fitted c =

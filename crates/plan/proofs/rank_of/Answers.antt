@@ -15,8 +15,8 @@ use Rattle.plan.proofs.rank_of.Goals.{In-loop-j}
 use Rattle.plan.proofs.rank_of.Goals as goal
 
 module _ (n m u g s left r c j : ℕ) (v : Made n m u g s left r c j) where
-  made-sub : left % (s + 1) ≡ sub n (suc j) u
-  made-sub = rw (v.at, v.size) (cell_sub n (suc j) u)
+  made_sub : left % (s + 1) ≡ sub n (suc j) u
+  made_sub = rw (v.at, v.size) (cell_sub n (suc j) u)
 
   again : (d : ℕ) → d ≡ before g r (left % (s + 1)) c → j < m → Made n m u g ((s + 1) * s) (left / (s + 1)) ((s + 1) * r) d (j + 1)
   unfolding t rank prefix_of racks
@@ -26,7 +26,7 @@ module _ (n m u g s left r c j : ℕ) (v : Made n m u g s left r c j) where
     size = rw v.size;
     at = rw (v.at, v.size) (cell_up n (suc j) u);
     racked = rw (v.size, v.racked);
-    ranked = e ∙ rw (made-sub, v.first, v.racked, v.ranked);
+    ranked = e ∙ rw (made_sub, v.first, v.racked, v.ranked);
   })
 
 begin : (n m u g s : ℕ) → g ≡ (n + 1) * n + 1 → s ≡ (n + 1) * n → Made n m u g s (u / s) 1 0 0
@@ -37,7 +37,7 @@ begin n m u g s e f = record { turns = omega arith; first = e; size = f; at = rw
 record Turn (g s left r c : ℕ) : Type 0 where
   fits : Fit g s r
   below : c < r
-  q-fits : left % (s + 1) * r + r ≤ largest
+  q_fits : left % (s + 1) * r + r ≤ largest
 
 turn : (n m u g s left r c j : ℕ) → 0 < n → Sized n (m + 1) → Made n m u g s left r c j → j < m → Turn g s left r c
 turn n m u g s left r c j pos z v l =
@@ -45,7 +45,7 @@ turn n m u g s left r c j pos z v l =
     record {
       fits = rw (v.first, v.size, v.racked) (fit n (m + 1) j pos z (omega arith));
       below = rw (v.racked, v.ranked) (rank_below n j u);
-      q-fits = rw (made-sub n m u g s left r c j v, v.racked) q;
+      q_fits = rw (made_sub n m u g s left r c j v, v.racked) q;
     }
 
 at_turn : (c : In-loop-j) → Turn ((c.args.n + 1) * c.args.n + 1) c.loop-j.s c.loop-j.cell c.loop-j.r c.loop-j.c
@@ -78,7 +78,7 @@ overflow_add-s-in-loop-j c = omega (arith, (at_turn (goal.at.overflow_add-s-in-l
 pub before_of-c-requires : goal.before_of-c-requires
 before_of-c-requires c =
     let f = at_turn (goal.at.before_of-c-requires c).In-loop-j in
-    (f.fits.r_pos, f.below, omega (arith, f.fits.g_fits), omega (arith, f.q-fits))
+    (f.fits.r_pos, f.below, omega (arith, f.fits.g_fits), omega (arith, f.q_fits))
 
 pub overflow_add-cell : goal.overflow_add-cell
 overflow_add-cell c = omega (arith, (at_turn (goal.at.overflow_add-cell c).In-loop-j).fits.s_fits)

@@ -2,14 +2,14 @@
 use borrow.Author.Rules.{rules}
 use native.Mathlib.Omega.{arith}
 use Rattle.hall.proofs.Growth.{valid_known, sized_below}
-use Rattle.plan.proofs.Asks.{none-fitted, fitted-low, fitted-rank}
+use Rattle.plan.proofs.Asks.{none_fitted, fitted_low, fitted_rank}
 use Rattle.plan.proofs.ranks_below.Goals as goal
 
 pub returns-then-servers_of-uid : goal.returns-then-servers_of-uid
-returns-then-servers_of-uid c = none-fitted _ _ _ c.servers_of.ensures (omega arith)
+returns-then-servers_of-uid c = none_fitted _ _ _ c.servers_of.ensures (omega arith)
 
 pub returns-then-h-lt2 : goal.returns-then-h-lt2
-returns-then-h-lt2 c = fitted-low c.args.h c.args.uid _ c.servers_of.ensures (omega arith) (omega arith)
+returns-then-h-lt2 c = fitted_low c.args.h c.args.uid _ c.servers_of.ensures (omega arith) (omega arith)
 
 pub rank_of-requires : goal.rank_of-requires
 rank_of-requires c =
@@ -18,4 +18,4 @@ rank_of-requires c =
 
 pub returns : goal.returns
 returns c =
-    fitted-rank c.args.h c.args.uid _ c.servers_of.ensures (omega arith) _ c.rank_of.ensures
+    fitted_rank c.args.h c.args.uid _ c.servers_of.ensures (omega arith) _ c.rank_of.ensures

@@ -3,7 +3,7 @@ use mathlib.Core.Path.{◌≡◌}
 use borrow.Author.Rules.{rules}
 use native.Mathlib.Omega.{arith}
 use Rattle.hall.proofs.Growth.{no_servers, some_servers}
-use Rattle.plan.proofs.Asks.{refused_hall, refused_low, refused_full, refused-not}
+use Rattle.plan.proofs.Asks.{refused_hall, refused_low, refused_full, refused_not}
 use Rattle.plan.proofs.refused.Goals as goal
 
 pub returns-then-servers_of-eq0 : goal.returns-then-servers_of-eq0
@@ -20,4 +20,4 @@ returns-then-h-racks_of c =
 pub returns : goal.returns
 returns c =
     let v = some_servers _ _ c.servers_of.ensures c.if-servers_of-eq0.false in
-    refused-not _ v (omega arith) _ c.racks_of.ensures c.if-h-racks_of.false
+    refused_not _ v (omega arith) _ c.racks_of.ensures c.if-h-racks_of.false

@@ -5,7 +5,7 @@ use native.Mathlib.Omega.{arith}
 use borrow.Author.Rules.{rules}
 use Rattle.hall.specs.Cells.{t}
 use Rattle.hall.proofs.Growth.{valid_known, size_of_lem}
-use Rattle.ports.proofs.Parts.{sound, part-empty, part-counts, part-within, part-is}
+use Rattle.ports.proofs.Parts.{sound, part_empty, part_counts, part_within, part_is}
 use Rattle.ports.proofs.part_of.Goals.{After-size_of-count}
 use Rattle.ports.proofs.part_of.Goals as goal
 
@@ -17,12 +17,12 @@ sized c =
     size_of_lem _ _ _ v (valid_known _ v).b_low c.size_of-count.ensures
 
 pub returns-then-part_refusal-ne0 : goal.returns-then-part_refusal-ne0
-returns-then-part_refusal-ne0 c = let a = c.args in part-empty a.h a.table.now a.uid _ c.part_refusal.ensures c.if-part_refusal-ne0.true
+returns-then-part_refusal-ne0 c = let a = c.args in part_empty a.h a.table.now a.uid _ c.part_refusal.ensures c.if-part_refusal-ne0.true
 
 pub nonzero_div-from : goal.nonzero_div-from
 nonzero_div-from c =
     let a = c.args in
-    part-counts a.h a.table.now a.uid _ _ 0 c.part_refusal.ensures c.if-part_refusal-ne0.false (sized (goal.at.nonzero_div-from c).After-size_of-count)
+    part_counts a.h a.table.now a.uid _ _ 0 c.part_refusal.ensures c.if-part_refusal-ne0.false (sized (goal.at.nonzero_div-from c).After-size_of-count)
 
 pub overflow_cast-from : goal.overflow_cast-from
 overflow_cast-from c =
@@ -32,19 +32,19 @@ overflow_cast-from c =
 pub overflow_mul-from : goal.overflow_mul-from
 overflow_mul-from c =
     let a = c.args in
-    omega (arith, part-within a.h a.table.now a.uid _ _ _ c.part_refusal.ensures c.if-part_refusal-ne0.false (sized (goal.at.overflow_mul-from c).After-size_of-count) c.bytes_of-bytes.ensures)
+    omega (arith, part_within a.h a.table.now a.uid _ _ _ c.part_refusal.ensures c.if-part_refusal-ne0.false (sized (goal.at.overflow_mul-from c).After-size_of-count) c.bytes_of-bytes.ensures)
 
 pub overflow_add-to : goal.overflow_add-to
 overflow_add-to c =
     let a = c.args in
-    omega (arith, part-within a.h a.table.now a.uid _ _ _ c.part_refusal.ensures c.if-part_refusal-ne0.false (sized (goal.at.overflow_add-to c).After-size_of-count) c.bytes_of-bytes.ensures)
+    omega (arith, part_within a.h a.table.now a.uid _ _ _ c.part_refusal.ensures c.if-part_refusal-ne0.false (sized (goal.at.overflow_add-to c).After-size_of-count) c.bytes_of-bytes.ensures)
 
 pub slice_bounds-result-end-2 : goal.slice_bounds-result-end-2
 slice_bounds-result-end-2 c =
     let a = c.args in
-    omega (arith, part-within a.h a.table.now a.uid _ _ _ c.part_refusal.ensures c.if-part_refusal-ne0.false (sized (goal.at.slice_bounds-result-end-2 c).After-size_of-count) c.bytes_of-bytes.ensures)
+    omega (arith, part_within a.h a.table.now a.uid _ _ _ c.part_refusal.ensures c.if-part_refusal-ne0.false (sized (goal.at.slice_bounds-result-end-2 c).After-size_of-count) c.bytes_of-bytes.ensures)
 
 pub returns : goal.returns
 returns c =
     let a = c.args in
-    part-is a.h a.table.now a.uid _ _ _ c.part_refusal.ensures c.if-part_refusal-ne0.false (sized (goal.at.returns c).After-size_of-count) c.bytes_of-bytes.ensures
+    part_is a.h a.table.now a.uid _ _ _ c.part_refusal.ensures c.if-part_refusal-ne0.false (sized (goal.at.returns c).After-size_of-count) c.bytes_of-bytes.ensures

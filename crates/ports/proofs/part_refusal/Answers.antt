@@ -2,11 +2,11 @@
 use mathlib.Core.Path.{sym, ◌∙◌}
 use borrow.Author.Rules.{rules}
 use Rattle.hall.proofs.Growth.{no_servers, some_servers, valid_servers}
-use Rattle.ports.proofs.Parts.{bytes_are, part-hall, part_length, part-uid, part-good}
+use Rattle.ports.proofs.Parts.{bytes_are, part_hall, part_length, part_uid, part_good}
 use Rattle.ports.proofs.part_refusal.Goals as goal
 
 pub returns-then-servers-eq0 : goal.returns-then-servers-eq0
-returns-then-servers-eq0 c = let a = c.args in part-hall a.h a.table.now a.uid (no_servers _ _ c.servers_of-servers.ensures c.if-servers-eq0.true)
+returns-then-servers-eq0 c = let a = c.args in part_hall a.h a.table.now a.uid (no_servers _ _ c.servers_of-servers.ensures c.if-servers-eq0.true)
 
 pub returns-then-table-bytes_of : goal.returns-then-table-bytes_of
 returns-then-table-bytes_of c =
@@ -23,7 +23,7 @@ returns-then-servers-uid c =
     let l = bytes_are _ _ _ s.ensures ne c.bytes_of.ensures in
     let v = some_servers _ _ s.ensures ne in
     let a = c.args in
-    part-uid a.h a.table.now a.uid v (c.if-table-bytes_of.false ∙ l) (rw (valid_servers _ _ s.ensures v) at c.if-servers-uid.true)
+    part_uid a.h a.table.now a.uid v (c.if-table-bytes_of.false ∙ l) (rw (valid_servers _ _ s.ensures v) at c.if-servers-uid.true)
 
 pub returns : goal.returns
 returns c =
@@ -32,4 +32,4 @@ returns c =
     let l = bytes_are _ _ _ s.ensures ne c.bytes_of.ensures in
     let v = some_servers _ _ s.ensures ne in
     let a = c.args in
-    part-good a.h a.table.now a.uid v (c.if-table-bytes_of.false ∙ l) (rw (valid_servers _ _ s.ensures v) at c.if-servers-uid.false)
+    part_good a.h a.table.now a.uid v (c.if-table-bytes_of.false ∙ l) (rw (valid_servers _ _ s.ensures v) at c.if-servers-uid.false)

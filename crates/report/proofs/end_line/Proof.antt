@@ -16,7 +16,7 @@ behind : (c : tie.Else1) → c.before.before.before.before.args.at + length (end
 behind c =
     let a = c.before.before.before.before.args in
     let n = c.before.before.end-length in
-    let r = c.before.room-behind in
+    let r = c.before.room_behind in
     line_fits a.room.now a.at (end_line a.packets) r.result (by_length a.at n.result (end_line a.packets) a.room.now r.result n.ensures r.ensures)
     (not-false r.result c.if1.false)
 
@@ -30,7 +30,7 @@ returns : tie.Need-returns
 returns c =
     let a = c.before.before.before.before.args in
     let n = c.before.before.end-length in
-    let r = c.before.room-behind in
+    let r = c.before.room_behind in
     line_short a.room.now a.at (end_line a.packets) r.result (by_length a.at n.result (end_line a.packets) a.room.now r.result n.ensures r.ensures)
     (not-true r.result c.if1.true)
 
@@ -55,7 +55,7 @@ unfolding end_line
 returns-2 c =
     let a = c.before.before.before.before.before.before.before.before.before.before.before.before.before.args in
     let n = c.before.before.before.before.before.before.before.before.before.before.before.end-length in
-    let r = c.before.before.before.before.before.before.before.before.before.before.room-behind in
+    let r = c.before.before.before.before.before.before.before.before.before.before.room_behind in
     let l = behind c.before.before.before.before.before.before.before.before.before in
     let f = end_parts a.packets in
     let b = c.before.before.before.before.before.before.put-bytes in

@@ -17,7 +17,7 @@ behind : (c : tie.Else1) → c.before.before.before.before.args.at + length (hal
 behind c =
     let a = c.before.before.before.before.args in
     let n = c.before.before.hall-length in
-    let r = c.before.room-behind in
+    let r = c.before.room_behind in
     line_fits a.room.now a.at (hall_line a.h) r.result (by_length a.at n.result (hall_line a.h) a.room.now r.result n.ensures r.ensures)
     (not-false r.result c.if1.false)
 
@@ -31,7 +31,7 @@ returns : tie.Need-returns
 returns c =
     let a = c.before.before.before.before.args in
     let n = c.before.before.hall-length in
-    let r = c.before.room-behind in
+    let r = c.before.room_behind in
     line_short a.room.now a.at (hall_line a.h) r.result (by_length a.at n.result (hall_line a.h) a.room.now r.result n.ensures r.ensures)
     (not-true r.result c.if1.true)
 
@@ -66,7 +66,7 @@ unfolding hall_line
 returns-2 c =
     let a = c.before.before.before.before.before.before.before.before.before.before.before.before.before.before.before.before.before.before.before.before.before.args in
     let n = c.before.before.before.before.before.before.before.before.before.before.before.before.before.before.before.before.before.before.before.hall-length in
-    let r = c.before.before.before.before.before.before.before.before.before.before.before.before.before.before.before.before.before.before.room-behind in
+    let r = c.before.before.before.before.before.before.before.before.before.before.before.before.before.before.before.before.before.before.room_behind in
     let l = behind c.before.before.before.before.before.before.before.before.before.before.before.before.before.before.before.before.before in
     let f = hall_parts a.h in
     let b = c.before.before.before.before.before.before.before.before.before.before.before.before.before.before.put-bytes in

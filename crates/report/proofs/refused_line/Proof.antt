@@ -17,7 +17,7 @@ behind : (c : tie.Else1) → c.before.before.before.before.args.at + length (ref
 behind c =
     let a = c.before.before.before.before.args in
     let n = c.before.before.refused-length in
-    let r = c.before.room-behind in
+    let r = c.before.room_behind in
     line_fits a.room.now a.at (refused_line a.number a.place) r.result (by_length a.at n.result (refused_line a.number a.place) a.room.now r.result n.ensures r.ensures)
     (not-false r.result c.if1.false)
 
@@ -31,7 +31,7 @@ returns : tie.Need-returns
 returns c =
     let a = c.before.before.before.before.args in
     let n = c.before.before.refused-length in
-    let r = c.before.room-behind in
+    let r = c.before.room_behind in
     line_short a.room.now a.at (refused_line a.number a.place) r.result (by_length a.at n.result (refused_line a.number a.place) a.room.now r.result n.ensures r.ensures)
     (not-true r.result c.if1.true)
 
@@ -61,7 +61,7 @@ unfolding refused_line
 returns-2 c =
     let a = c.before.before.before.before.before.before.before.before.before.before.before.before.before.before.before.before.before.args in
     let n = c.before.before.before.before.before.before.before.before.before.before.before.before.before.before.before.refused-length in
-    let r = c.before.before.before.before.before.before.before.before.before.before.before.before.before.before.room-behind in
+    let r = c.before.before.before.before.before.before.before.before.before.before.before.before.before.before.room_behind in
     let l = behind c.before.before.before.before.before.before.before.before.before.before.before.before.before in
     let f = refused_parts a.number a.place in
     let b = c.before.before.before.before.before.before.before.before.before.before.put-bytes in

@@ -8,7 +8,7 @@ use lib.ListN.{get_or}
 use Rattle.route.specs.Routes.{route}
 use Rattle.route.specs.Filling.{per_switch}
 use Rattle.route.proofs.Inside.{size_pos}
-use Rattle.route.proofs.Filling.{room_low, room_below, room-behind, put_filled, one_inside, one_route, here-inside, there-inside, two-route, stored_join}
+use Rattle.route.proofs.Filling.{room_low, room_below, room_behind, put_filled, one_inside, one_route, here_inside, there_inside, two_route, stored_join}
 use Rattle.route.proofs.+fill.Goals as goal
 
 above_zero : {level : ℕ} → (level ≡ 0 → ⊥) → 0 < level
@@ -52,7 +52,7 @@ overflow_add-here-then-below-eq0-2 t c =
     let o = c.port_to-out in
     let i = c.port_to-into in
     let d = c.if-p-q.false in
-    let j = here-inside c.args.sizes.now c.args.uids.now c.args.level c.args.first c.args.from c.args.to c.args.at c.requires.0 c.requires.1 (above_zero c.if-level-eq0.false) d o.result o.ensures in
+    let j = here_inside c.args.sizes.now c.args.uids.now c.args.level c.args.first c.args.from c.args.to c.args.at c.requires.0 c.requires.1 (above_zero c.if-level-eq0.false) d o.result o.ensures in
     omega (arith, j.fits, j.to_in)
 
 pub put-middle-requires : goal.put-middle-requires
@@ -64,7 +64,7 @@ overflow_add-there-then-below-eq0 t c =
     let o = c.port_to-out in
     let i = c.port_to-into in
     let d = c.if-p-q.false in
-    let j = there-inside c.args.sizes.now c.args.uids.now c.args.level c.args.first c.args.from c.args.to c.args.at c.requires.0 c.requires.1 (above_zero c.if-level-eq0.false) d i.result i.ensures in
+    let j = there_inside c.args.sizes.now c.args.uids.now c.args.level c.args.first c.args.from c.args.to c.args.at c.requires.0 c.requires.1 (above_zero c.if-level-eq0.false) d i.result i.ensures in
     omega (arith, j.fits, j.from_in)
 
 pub put-requires-then-below-eq0 : goal.put-requires-then-below-eq0
@@ -77,7 +77,7 @@ put-requires-then-below-eq0 t c =
     let size = get_or c.args.sizes.now (c.args.level - 1) 0 in
     let p = put_filled n (c.args.level - 1) (c.args.first + c.args.from / size * size + c.args.from % size) (c.args.first + c.args.from / size * size + o.result) c.args.at f.result c.args.uids.now f.new.uids c.if-below-eq0.true (f.ensures.next, f.ensures.filled) in
     room_low f.new.uids (c.args.level - 1) f.result
-    (room-behind c.args.sizes.now c.args.uids.now c.args.level c.args.first c.args.from c.args.to c.args.at c.requires.0 c.requires.1 (above_zero c.if-level-eq0.false) d o.result f.result f.new.uids o.ensures p.0 p.1)
+    (room_behind c.args.sizes.now c.args.uids.now c.args.level c.args.first c.args.from c.args.to c.args.at c.requires.0 c.requires.1 (above_zero c.if-level-eq0.false) d o.result f.result f.new.uids o.ensures p.0 p.1)
     c.if-below-eq0.true
 
 pub returns-then-below-eq0 : goal.returns-then-below-eq0
@@ -97,7 +97,7 @@ returns-then-below-eq0 t c =
     (route n (c.args.level - 1) (c.args.first + c.args.to / size * size + i.result) (c.args.first + c.args.to / size * size + c.args.to % size))
     (route n c.args.level (c.args.first + c.args.from) (c.args.first + c.args.to))
     c.args.at f.result z.result
-    (two-route c.args.sizes.now c.args.uids.now c.args.level c.args.first c.args.from c.args.to c.args.at c.requires.0 c.requires.1 (above_zero c.if-level-eq0.false) d o.result i.result o.ensures i.ensures)
+    (two_route c.args.sizes.now c.args.uids.now c.args.level c.args.first c.args.from c.args.to c.args.at c.requires.0 c.requires.1 (above_zero c.if-level-eq0.false) d o.result i.result o.ensures i.ensures)
     p.0 p.1 q.0 q.1 in record { next = it.0; filled = it.1 }
 
 pub fill-middle-requires : goal.fill-middle-requires
@@ -105,7 +105,7 @@ fill-middle-requires t c =
     let o = c.port_to-out in
     let i = c.port_to-into in
     let d = c.if-p-q.false in
-    (omega arith, (here-inside c.args.sizes.now c.args.uids.now c.args.level c.args.first c.args.from c.args.to c.args.at c.requires.0 c.requires.1 (above_zero c.if-level-eq0.false) d o.result o.ensures, room_below c.args.uids.now c.args.level c.args.at c.requires.1 (above_zero c.if-level-eq0.false)))
+    (omega arith, (here_inside c.args.sizes.now c.args.uids.now c.args.level c.args.first c.args.from c.args.to c.args.at c.requires.0 c.requires.1 (above_zero c.if-level-eq0.false) d o.result o.ensures, room_below c.args.uids.now c.args.level c.args.at c.requires.1 (above_zero c.if-level-eq0.false)))
 
 pub fill-requires-2 : goal.fill-requires-2
 fill-requires-2 t c =
@@ -113,7 +113,7 @@ fill-requires-2 t c =
     let i = c.port_to-into in
     let d = c.if-p-q.false in
     let f = c.fill-middle in
-    (omega arith, (there-inside c.args.sizes.now c.args.uids.now c.args.level c.args.first c.args.from c.args.to c.args.at c.requires.0 c.requires.1 (above_zero c.if-level-eq0.false) d i.result i.ensures, room-behind c.args.sizes.now c.args.uids.now c.args.level c.args.first c.args.from c.args.to c.args.at c.requires.0 c.requires.1 (above_zero c.if-level-eq0.false) d o.result f.result f.new.uids o.ensures f.ensures.next f.ensures.filled))
+    (omega arith, (there_inside c.args.sizes.now c.args.uids.now c.args.level c.args.first c.args.from c.args.to c.args.at c.requires.0 c.requires.1 (above_zero c.if-level-eq0.false) d i.result i.ensures, room_behind c.args.sizes.now c.args.uids.now c.args.level c.args.first c.args.from c.args.to c.args.at c.requires.0 c.requires.1 (above_zero c.if-level-eq0.false) d o.result f.result f.new.uids o.ensures f.ensures.next f.ensures.filled))
 
 pub returns : goal.returns
 returns t c =
@@ -129,5 +129,5 @@ returns t c =
     (route n (c.args.level - 1) (c.args.first + c.args.to / size * size + i.result) (c.args.first + c.args.to / size * size + c.args.to % size))
     (route n c.args.level (c.args.first + c.args.from) (c.args.first + c.args.to))
     c.args.at f.result z.result
-    (two-route c.args.sizes.now c.args.uids.now c.args.level c.args.first c.args.from c.args.to c.args.at c.requires.0 c.requires.1 (above_zero c.if-level-eq0.false) d o.result i.result o.ensures i.ensures)
+    (two_route c.args.sizes.now c.args.uids.now c.args.level c.args.first c.args.from c.args.to c.args.at c.requires.0 c.requires.1 (above_zero c.if-level-eq0.false) d o.result i.result o.ensures i.ensures)
     f.ensures.next f.ensures.filled z.ensures.next z.ensures.filled in record { next = it.0; filled = it.1 }

@@ -6,7 +6,7 @@ use native.Mathlib.Nat.{div-mul-le_self}
 use native.Mathlib.Omega.{arith}
 use lib.ListN.{get_or}
 use Rattle.route.proofs.Inside.{size_pos}
-use Rattle.route.proofs.Search.{Search, search_starts, search-ends, search-same, search-apart, ends-fit, found_none, found_some}
+use Rattle.route.proofs.Search.{Search, search_starts, search_ends, search_same, search_apart, ends_fit, found_none, found_some}
 use Rattle.route.proofs.first_above.Goals as goal
 
 pub loop-j-init : goal.loop-j-init
@@ -54,7 +54,7 @@ nonzero_rem-from c =
 pub loop-j-preserved-then-p-q : goal.loop-j-preserved-then-p-q
 loop-j-preserved-then-p-q c =
     let w = c.loop-j in
-    search-same c.args.sizes.now c.args.b c.args.k c.args.x c.args.y w.near w.far w.level w.first w.from w.to w.j w.invariant c.loop-j-test.true c.if-p-q.true
+    search_same c.args.sizes.now c.args.b c.args.k c.args.x c.args.y w.near w.far w.level w.first w.from w.to w.j w.invariant c.loop-j-test.true c.if-p-q.true
 
 pub port_to-out-requires : goal.port_to-out-requires
 port_to-out-requires c = tt
@@ -62,7 +62,7 @@ port_to-out-requires c = tt
 pub overflow_add-near : goal.overflow_add-near
 overflow_add-near c =
     let w = c.loop-j in
-    let n = ends-fit c.args.sizes.now c.args.b c.args.k c.args.x c.args.y w.near w.far w.level w.first w.from w.to w.j w.invariant c.loop-j-test.true c.if-p-q.false in
+    let n = ends_fit c.args.sizes.now c.args.b c.args.k c.args.x c.args.y w.near w.far w.level w.first w.from w.to w.j w.invariant c.loop-j-test.true c.if-p-q.false in
     omega (arith, n.0, c.port_to-out.ensures)
 
 pub overflow_mul-far : goal.overflow_mul-far
@@ -81,7 +81,7 @@ port_to-requires c = tt
 pub overflow_add-far-in-loop-j : goal.overflow_add-far-in-loop-j
 overflow_add-far-in-loop-j c =
     let w = c.loop-j in
-    let n = ends-fit c.args.sizes.now c.args.b c.args.k c.args.x c.args.y w.near w.far w.level w.first w.from w.to w.j w.invariant c.loop-j-test.true c.if-p-q.false in
+    let n = ends_fit c.args.sizes.now c.args.b c.args.k c.args.x c.args.y w.near w.far w.level w.first w.from w.to w.j w.invariant c.loop-j-test.true c.if-p-q.false in
     omega (arith, n.1, c.port_to.ensures)
 
 pub overflow_add-level : goal.overflow_add-level
@@ -90,15 +90,15 @@ overflow_add-level c = let v = c.loop-j.invariant in omega (arith, v.inside.low,
 pub loop-j-preserved : goal.loop-j-preserved
 loop-j-preserved c =
     let w = c.loop-j in
-    search-apart c.args.sizes.now c.args.b c.args.k c.args.x c.args.y w.near w.far w.level w.first w.from w.to w.j w.invariant c.loop-j-test.true c.if-p-q.false
+    search_apart c.args.sizes.now c.args.b c.args.k c.args.x c.args.y w.near w.far w.level w.first w.from w.to w.j w.invariant c.loop-j-test.true c.if-p-q.false
     c.port_to-out.result c.port_to.result c.port_to-out.ensures c.port_to.ensures
 
 pub returns-then-level-eq0 : goal.returns-then-level-eq0
 returns-then-level-eq0 c =
     let w = c.loop-j in
-    found_none w.near w.far w.level c.if-level-eq0.true ∙ search-ends c.args.sizes.now c.args.b c.args.k c.args.x c.args.y w.near w.far w.level w.first w.from w.to w.j w.invariant c.loop-j-test.false
+    found_none w.near w.far w.level c.if-level-eq0.true ∙ search_ends c.args.sizes.now c.args.b c.args.k c.args.x c.args.y w.near w.far w.level w.first w.from w.to w.j w.invariant c.loop-j-test.false
 
 pub returns : goal.returns
 returns c =
     let w = c.loop-j in
-    found_some w.near w.far w.level c.if-level-eq0.false ∙ search-ends c.args.sizes.now c.args.b c.args.k c.args.x c.args.y w.near w.far w.level w.first w.from w.to w.j w.invariant c.loop-j-test.false
+    found_some w.near w.far w.level c.if-level-eq0.false ∙ search_ends c.args.sizes.now c.args.b c.args.k c.args.x c.args.y w.near w.far w.level w.first w.from w.to w.j w.invariant c.loop-j-test.false

@@ -19,8 +19,8 @@ given c = let s = c.sizes_of-s in
 x_fits : (c : Else-servers-y) → c.args.x < servers c.args.h
 x_fits c = omega (arith, (given c.before.before).at_k)
 
-y-fits : (c : Else-servers-y) → c.args.y < servers c.args.h
-y-fits c = omega (arith, (given c.before.before).at_k)
+y_fits : (c : Else-servers-y) → c.args.y < servers c.args.h
+y_fits c = omega (arith, (given c.before.before).at_k)
 
 pub returns-then-s-ne0 : goal.returns-then-s-ne0
 returns-then-s-ne0 c =
@@ -49,9 +49,9 @@ returns-then-servers-y c =
 pub first_above-link-requires : goal.first_above-link-requires
 first_above-link-requires c =
     let a = c.args in
-    whole_hall a.h c.sizes_of-s.result.t a.x a.y (given (goal.at.first_above-link-requires c).After-struct_known-2-1) (x_fits (goal.at.first_above-link-requires c).Else-servers-y) (y-fits (goal.at.first_above-link-requires c).Else-servers-y)
+    whole_hall a.h c.sizes_of-s.result.t a.x a.y (given (goal.at.first_above-link-requires c).After-struct_known-2-1) (x_fits (goal.at.first_above-link-requires c).Else-servers-y) (y_fits (goal.at.first_above-link-requires c).Else-servers-y)
 
 pub returns : goal.returns
 returns c =
     let a = c.args in
-    first_found a.h a.x a.y c.sizes_of-s.result.t c.first_above-link.result (given (goal.at.returns c).After-struct_known-2-1) (x_fits (goal.at.returns c).Else-servers-y) (y-fits (goal.at.returns c).Else-servers-y) c.first_above-link.ensures
+    first_found a.h a.x a.y c.sizes_of-s.result.t c.first_above-link.result (given (goal.at.returns c).After-struct_known-2-1) (x_fits (goal.at.returns c).Else-servers-y) (y_fits (goal.at.returns c).Else-servers-y) c.first_above-link.ensures

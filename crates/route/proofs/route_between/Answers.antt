@@ -7,7 +7,7 @@ use borrow.Author.Rules.{rules}
 use Rattle.hall.specs.Halls.{servers}
 use Rattle.hall.proofs.Growth.{sizes_refused}
 use Rattle.route.specs.Answers.{no_route}
-use Rattle.route.proofs.Answers.{Given, sizes_known, whole_hall, whole_room, route_no_hall, route_no_x, route_no_y, next_fits, route-filled}
+use Rattle.route.proofs.Answers.{Given, sizes_known, whole_hall, whole_room, route_no_hall, route_no_x, route_no_y, next_fits, route_filled}
 use Rattle.route.proofs.route_between.Goals.{After-struct_known-2-1, Else-servers-y}
 use Rattle.route.proofs.route_between.Goals as goal
 
@@ -20,8 +20,8 @@ given c = let s = c.sizes_of-s in
 x_fits : (c : Else-servers-y) → c.args.x < servers c.args.h
 x_fits c = omega (arith, (given c.before.before).at_k)
 
-y-fits : (c : Else-servers-y) → c.args.y < servers c.args.h
-y-fits c = omega (arith, (given c.before.before).at_k)
+y_fits : (c : Else-servers-y) → c.args.y < servers c.args.h
+y_fits c = omega (arith, (given c.before.before).at_k)
 
 pub returns-then-s-ne0 : goal.returns-then-s-ne0
 returns-then-s-ne0 c =
@@ -51,21 +51,21 @@ pub fill-next-requires : goal.fill-next-requires
 fill-next-requires c =
     let a = c.args in
     let g = given (goal.at.fill-next-requires c).After-struct_known-2-1 in
-    (whole_hall a.h c.sizes_of-s.result.t a.x a.y g (x_fits (goal.at.fill-next-requires c).Else-servers-y) (y-fits (goal.at.fill-next-requires c).Else-servers-y), whole_room a.h c.no_uids-uids.result g.known c.no_uids-uids.ensures)
+    (whole_hall a.h c.sizes_of-s.result.t a.x a.y g (x_fits (goal.at.fill-next-requires c).Else-servers-y) (y_fits (goal.at.fill-next-requires c).Else-servers-y), whole_room a.h c.no_uids-uids.result g.known c.no_uids-uids.ensures)
 
 pub overflow_sub-result : goal.overflow_sub-result
 overflow_sub-result c =
     let a = c.args in
-    (next_fits a.h a.x a.y c.sizes_of-s.result.t (given (goal.at.overflow_sub-result c).After-struct_known-2-1) (x_fits (goal.at.overflow_sub-result c).Else-servers-y) (y-fits (goal.at.overflow_sub-result c).Else-servers-y) c.fill-next.result c.fill-next.ensures.next).0
+    (next_fits a.h a.x a.y c.sizes_of-s.result.t (given (goal.at.overflow_sub-result c).After-struct_known-2-1) (x_fits (goal.at.overflow_sub-result c).Else-servers-y) (y_fits (goal.at.overflow_sub-result c).Else-servers-y) c.fill-next.result c.fill-next.ensures.next).0
 
 pub overflow_cast-result : goal.overflow_cast-result
 overflow_cast-result c =
     let a = c.args in
-    let f = next_fits a.h a.x a.y c.sizes_of-s.result.t (given (goal.at.overflow_cast-result c).After-struct_known-2-1) (x_fits (goal.at.overflow_cast-result c).Else-servers-y) (y-fits (goal.at.overflow_cast-result c).Else-servers-y) c.fill-next.result c.fill-next.ensures.next in
+    let f = next_fits a.h a.x a.y c.sizes_of-s.result.t (given (goal.at.overflow_cast-result c).After-struct_known-2-1) (x_fits (goal.at.overflow_cast-result c).Else-servers-y) (y_fits (goal.at.overflow_cast-result c).Else-servers-y) c.fill-next.result c.fill-next.ensures.next in
     omega (arith, f.1)
 
 pub returns : goal.returns
 returns c =
     let a = c.args in
-    route-filled a.h a.x a.y c.sizes_of-s.result.t (given (goal.at.returns c).After-struct_known-2-1) (x_fits (goal.at.returns c).Else-servers-y) (y-fits (goal.at.returns c).Else-servers-y)
+    route_filled a.h a.x a.y c.sizes_of-s.result.t (given (goal.at.returns c).After-struct_known-2-1) (x_fits (goal.at.returns c).Else-servers-y) (y_fits (goal.at.returns c).Else-servers-y)
     c.fill-next.result c.no_uids-uids.result c.fill-next.new.uids c.fill-next.ensures.next c.no_uids-uids.ensures c.fill-next.ensures.filled

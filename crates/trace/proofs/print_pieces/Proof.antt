@@ -36,7 +36,7 @@ end-within c =
     let l = c.before.before.before.before.before.before.loop in
     let p = c.before.before.before.before.trace-piece in
     let f = goes_forward s l.from l.room p.result p.ensures.0 c.if1.false in
-    omega (arith, f.in-room, p.auto.0)
+    omega (arith, f.in_room, p.auto.0)
 
 slice-reshare-prefix-write-all : tie.Need-slice-reshare-prefix-write-all invariant-loop decreases-loop
 slice-reshare-prefix-write-all c = end-within c
@@ -55,7 +55,7 @@ loop-less c =
     let l = c.before.before.before.before.before.before.before.before.loop in
     let p = c.before.before.before.before.before.before.trace-piece in
     let f = goes_forward s l.from l.room p.result p.ensures.0 c.before.before.if1.false in
-    omega (arith, f.above, f.in-trace)
+    omega (arith, f.above, f.in_trace)
 
 loop-again : tie.Need-loop-preserved invariant-loop decreases-loop
 loop-again c = c.before.before.before.before.before.before.trace-piece.auto.0 ∙ c.before.before.before.before.before.before.before.before.loop.invariant

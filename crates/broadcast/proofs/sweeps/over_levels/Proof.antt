@@ -14,7 +14,7 @@ use Rattle.hall.proofs.Growth.{t_next}
 use Rattle.broadcast.specs.Sweeps.{Sweep, reached_by, on_links, on_levels}
 use Rattle.broadcast.proofs.Grid.{scope_product}
 use Rattle.broadcast.proofs.Marks.{sweep_none, sweep_cong, sweep_then}
-use Rattle.broadcast.proofs.Reaches.{reads_same, levels-start, levels-next, cell_fits, fits_again}
+use Rattle.broadcast.proofs.Reaches.{reads_same, levels_start, levels_next, cell_fits, fits_again}
 use Rattle.broadcast.proofs.sweeps.over_levels.Statement.{statement}
 use Rattle.broadcast.proofs.sweeps.over_levels.Tie as tie
 
@@ -32,7 +32,7 @@ first_size n = refl
 loop-holds : tie.Need-loop-init invariant-loop decreases-loop
 loop-holds c =
     let a = c.before.before.args in
-    (omega arith, first_size a.h.n, search rules, sweep_none (on_levels a.h a.table.now (reached_by a.r a.room.now) a.size 0) a.r a.room.now (levels-start a.h a.table.now (reached_by a.r a.room.now) a.size a.room.now))
+    (omega arith, first_size a.h.n, search rules, sweep_none (on_levels a.h a.table.now (reached_by a.r a.room.now) a.size 0) a.r a.room.now (levels_start a.h a.table.now (reached_by a.r a.room.now) a.size a.room.now))
 
 over-links-requires : tie.Need-over-links-requires invariant-loop decreases-loop
 over-links-requires c κs =
@@ -74,7 +74,7 @@ loop-again c =
     let same = reads_same q a.r old w.room w.any (omega (arith, k.small)) w.invariant.3 in
     let mine : Sweep (on_links a.h a.table.now p a.size w.j) a.r w.room _ f.result = rw same at f.ensures in
     let swept = sweep_cong (λ y. either (q y) (on_links a.h a.table.now p a.size w.j y)) (on_levels a.h a.table.now p a.size (w.j + 1)) a.r old _ (either w.any f.result)
-    (levels-next a.h a.table.now p a.size w.j old)
+    (levels_next a.h a.table.now p a.size w.j old)
     (sweep_then q (on_links a.h a.table.now p a.size w.j) a.r old w.room _ w.any f.result (omega (arith, k.small)) w.invariant.3 mine) in
     let told : c.if1.any ≡ either w.any f.result =
     ⊎_elim

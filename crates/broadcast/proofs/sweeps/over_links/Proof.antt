@@ -8,12 +8,12 @@ use native.Mathlib.Omega.{arith}
 use lib.ListN.{length}
 use borrow.Author.Rules.{rules}
 use Rattle.combine.specs.Tests.{both}
-use Rattle.hall.proofs.Cells.{t-pos}
+use Rattle.hall.proofs.Cells.{t_pos}
 use Rattle.ports.specs.Links.{both_up}
 use Rattle.broadcast.specs.Sweeps.{Sweep, reached_by, over_link, on_links, fresh, place_at}
 use Rattle.broadcast.proofs.Marks.{below, sweep_none, sweep_skip, sweep_store, fresh_now}
 use Rattle.broadcast.proofs.Grid.{place_start, place_next}
-use Rattle.broadcast.proofs.Reaches.{links-start, link_here, reads_same, scope_fits_lem, cell_fits, size_inside, neighbour_inside, place_fits, near_is}
+use Rattle.broadcast.proofs.Reaches.{links_start, link_here, reads_same, scope_fits_lem, cell_fits, size_inside, neighbour_inside, place_fits, near_is}
 use Rattle.broadcast.proofs.sweeps.over_links.Statement.{statement}
 use Rattle.broadcast.proofs.sweeps.over_links.Tie as tie
 
@@ -28,11 +28,11 @@ loop-holds : tie.Need-loop-init invariant-loop decreases-loop
 loop-holds c =
     let a = c.before.before.args in
     let k = c.before.before.requires in
-    let pos : 0 < a.cell = rw k.cell_is (t-pos a.h.n (omega (arith, k.fits.n_low)) a.j) in (
+    let pos : 0 < a.cell = rw k.cell_is (t_pos a.h.n (omega (arith, k.fits.n_low)) a.j) in (
       omega arith,
       search rules,
       place_start a.cell pos,
-      sweep_none (below (over_link a.h a.table.now (reached_by a.r a.room.now) a.j) 0) a.r a.room.now (links-start a.h a.table.now (reached_by a.r a.room.now) a.j a.room.now),
+      sweep_none (below (over_link a.h a.table.now (reached_by a.r a.room.now) a.j) 0) a.r a.room.now (links_start a.h a.table.now (reached_by a.r a.room.now) a.j a.room.now),
     )
 
 add-is-reached : tie.Need-overflow-add-is-reached invariant-loop decreases-loop
@@ -43,7 +43,7 @@ neighbour-at-requires c κs =
     let a = c.before.before.before.before.before.args in
     let k = c.before.before.before.before.before.requires in
     let w = c.before.before.loop in
-    let pos : 0 < a.cell = rw k.cell_is (t-pos a.h.n (omega (arith, k.fits.n_low)) a.j) in
+    let pos : 0 < a.cell = rw k.cell_is (t_pos a.h.n (omega (arith, k.fits.n_low)) a.j) in
     let small : a.cell ≤ 72 = rw k.cell_is (cell_fits a.h k.scope a.size a.r a.room.now k.fits a.j k.below) in
     rw w.invariant.2 (place_fits a.cell w.x pos small (omega (arith, scope_fits_lem a.h k.scope a.size a.r a.room.now k.fits)))
 
@@ -73,7 +73,7 @@ next-place-requires c κs =
     let a = c.before.before.before.before.before.before.before.before.args in
     let k = c.before.before.before.before.before.before.before.before.requires in
     let w = c.before.before.before.before.before.loop in
-    let pos : 0 < a.cell = rw k.cell_is (t-pos a.h.n (omega (arith, k.fits.n_low)) a.j) in
+    let pos : 0 < a.cell = rw k.cell_is (t_pos a.h.n (omega (arith, k.fits.n_low)) a.j) in
     let small : a.cell ≤ 72 = rw k.cell_is (cell_fits a.h k.scope a.size a.r a.room.now k.fits a.j k.below) in
     rw w.invariant.2 (place_fits a.cell w.x pos small (omega (arith, scope_fits_lem a.h k.scope a.size a.r a.room.now k.fits)))
 
@@ -93,7 +93,7 @@ loop-again c =
     let old : List ℕ = a.room.now in
     let p : ℕ → Bool = reached_by a.r old in
     let q : ℕ → Bool = over_link a.h a.table.now p a.j in
-    let pos : 0 < a.cell = rw k.cell_is (t-pos a.h.n (omega (arith, k.fits.n_low)) a.j) in
+    let pos : 0 < a.cell = rw k.cell_is (t_pos a.h.n (omega (arith, k.fits.n_low)) a.j) in
     let same = reads_same (below q w.x) a.r old w.room w.any (omega (arith, k.fits.small)) w.invariant.3 in
     let y = near_is a.h.n a.j a.cell w.x near.result w.p k.cell_is w.invariant.2 near.ensures in
     let e : test.result ≡ fresh q old w.x =

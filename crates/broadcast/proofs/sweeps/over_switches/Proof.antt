@@ -12,7 +12,7 @@ use Rattle.combine.specs.Tests.{either}
 use Rattle.combine.proofs.Tests.{either_true, either_false}
 use Rattle.broadcast.specs.Sweeps.{Sweep, reached_by, on_switch, on_switches}
 use Rattle.broadcast.proofs.Marks.{sweep_none, sweep_cong, sweep_then}
-use Rattle.broadcast.proofs.Reaches.{reads_same, switches-start, switches-next}
+use Rattle.broadcast.proofs.Reaches.{reads_same, switches_start, switches_next}
 use Rattle.broadcast.proofs.sweeps.over_switches.Statement.{statement}
 use Rattle.broadcast.proofs.sweeps.over_switches.Tie as tie
 
@@ -32,7 +32,7 @@ next_switch s count n l =
 loop-holds : tie.Need-loop-init invariant-loop decreases-loop
 loop-holds c =
     let a = c.before.before.args in
-    (omega arith, search rules, sweep_none (on_switches a.h a.table.now (reached_by a.r a.room.now) (0 * a.h.n)) a.r a.room.now (switches-start a.h a.table.now (reached_by a.r a.room.now) a.room.now))
+    (omega arith, search rules, sweep_none (on_switches a.h a.table.now (reached_by a.r a.room.now) (0 * a.h.n)) a.r a.room.now (switches_start a.h a.table.now (reached_by a.r a.room.now) a.room.now))
 
 over-switch-requires : tie.Need-over-switch-requires invariant-loop decreases-loop
 over-switch-requires c κs =
@@ -59,7 +59,7 @@ loop-again c =
     let same = reads_same q a.r old w.room w.any (omega (arith, k.3)) w.invariant.2 in
     let mine : Sweep (on_switch a.h a.table.now p w.s) a.r w.room _ f.result = rw same at f.ensures in
     let swept = sweep_cong (λ y. either (q y) (on_switch a.h a.table.now p w.s y)) (on_switches a.h a.table.now p ((w.s + 1) * a.h.n)) a.r old _ (either w.any f.result)
-    (switches-next a.h a.table.now p w.s old)
+    (switches_next a.h a.table.now p w.s old)
     (sweep_then q (on_switch a.h a.table.now p w.s) a.r old w.room _ w.any f.result (omega (arith, k.3)) w.invariant.2 mine) in
     let told : c.if1.any ≡ either w.any f.result =
     ⊎_elim

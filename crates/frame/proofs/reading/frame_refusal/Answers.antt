@@ -1,7 +1,7 @@
 -- `frame::reading::frame_refusal` meets its contract: length, then version, DHL and flags, then what is left are the definition's asks in turn.
 use Rattle.std.proofs.Common.{◌≡◌, ℕ, ◌/◌, ◌%◌, sym, ap, ◌∙◌, rules}
 use Rattle.frame.specs.Layout.{DHL, flags, words_with, is_pf, value_in, word_at}
-use Rattle.frame.proofs.Frames.{header_words_lem, frame_short, frame-header, frame-whole}
+use Rattle.frame.proofs.Frames.{header_words_lem, frame_short, frame_header, frame_whole}
 use Rattle.frame.proofs.Rows.{DHL_in, flags_in}
 use Rattle.frame.proofs.reading.frame_refusal.Goals as goal
 
@@ -11,7 +11,7 @@ returns-then-frame c = frame_short c.args.frame.now c.if-frame.true
 pub returns-then-refused-ne0 : goal.returns-then-refused-ne0
 returns-then-refused-ne0 c =
     let r = c.fields_refusal-refused in
-    r.ensures ∙ frame-header c.args.frame.now c.if-frame.false (λ z. c.if-refused-ne0.true (r.ensures ∙ z))
+    r.ensures ∙ frame_header c.args.frame.now c.if-frame.false (λ z. c.if-refused-ne0.true (r.ensures ∙ z))
 
 pub whole_refusal-requires : goal.whole_refusal-requires
 whole_refusal-requires c =
@@ -28,4 +28,4 @@ pub returns : goal.returns
 returns c =
     let f = c.args.frame.now in
     c.whole_refusal.ensures
-    ∙ frame-whole f c.if-frame.false (sym c.fields_refusal-refused.ensures ∙ c.if-refused-ne0.false)
+    ∙ frame_whole f c.if-frame.false (sym c.fields_refusal-refused.ensures ∙ c.if-refused-ne0.false)

@@ -5,7 +5,7 @@ use Rattle.frame.specs.Layout.{DHL, payload_length, checksum, proxy, value_in, w
 use Rattle.frame.specs.Checksum.{header_checksum}
 use Rattle.frame.specs.Addresses.{addresses_fit}
 use Rattle.frame.specs.Asks.{Told, addresses_sound, sum_in}
-use Rattle.frame.proofs.Frames.{whole_short, whole-checksum, whole-address, whole-payload, whole-sound}
+use Rattle.frame.proofs.Frames.{whole_short, whole_checksum, whole_address, whole_payload, whole_sound}
 use Rattle.frame.proofs.Rows.{told_fits, payload_in, checksum_in, whole_in}
 use Rattle.words.specs.Words.{Bytes}
 use Rattle.frame.proofs.Words.{word_fits}
@@ -13,8 +13,8 @@ use Rattle.frame.proofs.reading.whole_refusal.Goals as goal
 
 -- what is read off the words, in the values' terms
 module _ (f : List ℕ) (count : ℕ) (b : Bool) (t : Told (word_at f) count b) where
-  checksum-read : (third : ℕ) → third ≡ word_at f 2 → value_in (word_at f) checksum ≡ third % 65536
-  checksum-read third w = checksum_in (word_at f) ∙ ap (λ (word : ℕ). word % 65536) (sym w)
+  checksum_read : (third : ℕ) → third ≡ word_at f 2 → value_in (word_at f) checksum ≡ third % 65536
+  checksum_read third w = checksum_in (word_at f) ∙ ap (λ (word : ℕ). word % 65536) (sym w)
 
   sum-read : (sum : ℕ) → sum ≡ header_checksum (word_at f) count → sum ≡ sum_in f
   sum-read sum s = s ∙ ap (header_checksum (word_at f)) t.counted
@@ -49,8 +49,8 @@ returns-then-third-checksum_of c =
     let a = c.args in
     let f = a.frame.now in
     let t = c.requires in
-    whole-checksum (length f) (value_in (word_at f)) (sum_in f) (omega (arith, t.counted, c.if-frame-count.false))
-    (λ q. c.if-third-checksum_of.true (sym (checksum-read f a.count _ t _ c.word_at-third.ensures) ∙ q ∙ sym (sum-read f a.count _ t _ c.checksum_of.ensures)))
+    whole_checksum (length f) (value_in (word_at f)) (sum_in f) (omega (arith, t.counted, c.if-frame-count.false))
+    (λ q. c.if-third-checksum_of.true (sym (checksum_read f a.count _ t _ c.word_at-third.ensures) ∙ q ∙ sym (sum-read f a.count _ t _ c.checksum_of.ensures)))
 
 pub word_at-source-requires : goal.word_at-source-requires
 word_at-source-requires c = let n = told_fits _ _ _ c.requires in omega (arith, n.0, c.if-frame-count.false)
@@ -68,8 +68,8 @@ returns-then-not-addresses_fit c =
     let t = c.requires in
     let bytes : Bytes f = record { below = λ i. omega (arith, c.shared_slice_known-1.given i) } in
     let r = c.addresses_fit in
-    whole-address (length f) (value_in (word_at f)) (sum_in f) (omega (arith, t.counted, c.if-frame-count.false))
-    (checksum-read f a.count _ t _ c.word_at-third.ensures ∙ c.if-third-checksum_of.false ∙ sum-read f a.count _ t _ c.checksum_of.ensures)
+    whole_address (length f) (value_in (word_at f)) (sum_in f) (omega (arith, t.counted, c.if-frame-count.false))
+    (checksum_read f a.count _ t _ c.word_at-third.ensures ∙ c.if-third-checksum_of.false ∙ sum-read f a.count _ t _ c.checksum_of.ensures)
     (addresses f a.count _ t bytes _ _ _ c.word_at-source.ensures c.word_at-destination.ensures c.proxy_of-proxy.ensures ∙ sym r.ensures ∙ not-true r.result c.if-not-addresses_fit.true-raw)
 
 pub word_at-first-requires : goal.word_at-first-requires
@@ -88,8 +88,8 @@ returns-then-frame-end c =
     let t = c.requires in
     let bytes : Bytes f = record { below = λ i. omega (arith, c.shared_slice_known-1.given i) } in
     let r = c.addresses_fit in
-    whole-payload (length f) (value_in (word_at f)) (sum_in f) (omega (arith, t.counted, c.if-frame-count.false))
-    (checksum-read f a.count _ t _ c.word_at-third.ensures ∙ c.if-third-checksum_of.false ∙ sum-read f a.count _ t _ c.checksum_of.ensures)
+    whole_payload (length f) (value_in (word_at f)) (sum_in f) (omega (arith, t.counted, c.if-frame-count.false))
+    (checksum_read f a.count _ t _ c.word_at-third.ensures ∙ c.if-third-checksum_of.false ∙ sum-read f a.count _ t _ c.checksum_of.ensures)
     (addresses f a.count _ t bytes _ _ _ c.word_at-source.ensures c.word_at-destination.ensures c.proxy_of-proxy.ensures ∙ sym r.ensures ∙ not-false r.result c.if-not-addresses_fit.false-raw)
     (omega (arith, paid f a.count _ t _ c.word_at-first.ensures, c.if-frame-end.true))
 
@@ -100,7 +100,7 @@ returns c =
     let t = c.requires in
     let bytes : Bytes f = record { below = λ i. omega (arith, c.shared_slice_known-1.given i) } in
     let r = c.addresses_fit in
-    whole-sound (length f) (value_in (word_at f)) (sum_in f) (omega (arith, t.counted, c.if-frame-count.false))
-    (checksum-read f a.count _ t _ c.word_at-third.ensures ∙ c.if-third-checksum_of.false ∙ sum-read f a.count _ t _ c.checksum_of.ensures)
+    whole_sound (length f) (value_in (word_at f)) (sum_in f) (omega (arith, t.counted, c.if-frame-count.false))
+    (checksum_read f a.count _ t _ c.word_at-third.ensures ∙ c.if-third-checksum_of.false ∙ sum-read f a.count _ t _ c.checksum_of.ensures)
     (addresses f a.count _ t bytes _ _ _ c.word_at-source.ensures c.word_at-destination.ensures c.proxy_of-proxy.ensures ∙ sym r.ensures ∙ not-false r.result c.if-not-addresses_fit.false-raw)
     (omega (arith, paid f a.count _ t _ c.word_at-first.ensures, c.if-frame-end.false))

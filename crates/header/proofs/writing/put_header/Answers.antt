@@ -4,7 +4,7 @@ use native.Mathlib.Omega.{arith}
 use lib.ListN.{get_or}
 use borrow.Author.Rules.{rules}
 use Rattle.frame.proofs.Rows.{words_fit}
-use Rattle.header.proofs.Written.{flag_small, sum_fits, third_is, third-word, sum_is, bytes_are}
+use Rattle.header.proofs.Written.{flag_small, sum_fits, third_is, third_word, sum_is, bytes_are}
 use Rattle.header.proofs.writing.put_header.Goals as goal
 
 pub sum_of-requires : goal.sum_of-requires
@@ -13,7 +13,7 @@ sum_of-requires c =
     let n = words_fit f.has_proxy in
     let w = c.header_words-words in
     let k = c.count_of-count.ensures in
-    (omega (arith, n.0), omega (arith, n.1), omega (arith, third-word f w.result w.ensures, third_is f))
+    (omega (arith, n.0), omega (arith, n.1), omega (arith, third_word f w.result w.ensures, third_is f))
 
 pub overflow_add-words : goal.overflow_add-words
 overflow_add-words c =
@@ -21,7 +21,7 @@ overflow_add-words c =
     let w = c.header_words-words in
     let k = c.count_of-count in
     let s = sum_fits (λ i. get_or w.result i 0) k.result in
-    omega (arith, third-word f w.result w.ensures, third_is f, flag_small f.has_proxy, c.sum_of.ensures, c.requires.0)
+    omega (arith, third_word f w.result w.ensures, third_is f, flag_small f.has_proxy, c.sum_of.ensures, c.requires.0)
 
 pub put_words-requires : goal.put_words-requires
 put_words-requires c =

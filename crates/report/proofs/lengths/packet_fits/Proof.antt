@@ -22,7 +22,7 @@ room-behind-requires c κs = search rules
 returns : tie.Need-returns
 returns c =
     let a = c.before.before.before.args in
-    let r = c.before.room-behind in
+    let r = c.before.room_behind in
     let l = leb-true (a.at + line_room) a.room (sym r.ensures ∙ c.if1.true) in
     rw (le-leb (a.at + length (packet_line a.p a.uids.now)) a.room (omega (arith, longest c.before.before)))
 

@@ -49,11 +49,11 @@ put_number_slice_write_room : (t : ℕ) → put-number-lts.Need-slice-write-room
 put_number_slice_write_room t c =
     omega (arith, c.before.before.requires.1, ap length (decimal_small c.before.before.args.v c.if1.true))
 
-put_number_add-result : (t : ℕ) → put-number-lts.Need-overflow-add-result (
+put_number_add_result : (t : ℕ) → put-number-lts.Need-overflow-add-result (
   put_number_below t,
   put-number.Post,
 ) (put_number_at t) put-number.Post
-put_number_add-result t c =
+put_number_add_result t c =
     omega (arith, c.before.before.requires.1, ap length (decimal_small c.before.before.args.v c.if1.true))
 
 put_number_same_length : (t : ℕ) → put-number-lts.Need-same-length (
@@ -104,11 +104,11 @@ put_number_slice_write_room_2 t c =
     let l = decimal_more_length c.before.before.before.before.before.before.args.v c.before.before.before.before.if1.false in
     omega (arith, p.ensures.0, p.auto.0, c.before.before.before.before.before.before.requires.1)
 
-put_number_add-result_2 : (t : ℕ) → put-number-lts.Need-overflow-add-result-2 (
+put_number_add_result_2 : (t : ℕ) → put-number-lts.Need-overflow-add-result-2 (
   put_number_below t,
   put-number.Post,
 ) (put_number_at t) put-number.Post
-put_number_add-result_2 t c =
+put_number_add_result_2 t c =
     let p = c.before.before.put-number in
     let l = decimal_more_length c.before.before.before.before.before.before.args.v c.before.before.before.before.if1.false in
     omega (arith, p.ensures.0, c.before.before.before.before.before.before.requires.1)
@@ -142,13 +142,13 @@ pub +put-number-spec : {M : Type 1} → statement M
     (put_number_add_room t)
     (put_number_cast_room t)
     (put_number_slice_write_room t)
-    (put_number_add-result t)
+    (put_number_add_result t)
     (put_number_same_length t)
     (put_number_returns t)
     (put_number_put_number_requires t)
     (put_number_add_room_2 t)
     (put_number_cast_room_2 t)
     (put_number_slice_write_room_2 t)
-    (put_number_add-result_2 t)
+    (put_number_add_result_2 t)
     (put_number_same_length_2 t)
     (put_number_returns_2 t)
