@@ -193,7 +193,7 @@ def main():
     for p, t in texts.items():
         if p.endswith(".antt"):
             for name, where in BESIDE.items():
-                if any(p.startswith(w) for w in where):
+                if name in to.values() and any(p.startswith(w) for w in where):
                     t = re.sub(r"(?<![\w.'-])" + name + r"(?![\w.'-])", name + "_lem", t)
             n = code(t, to)
         elif p.endswith(".rt"):

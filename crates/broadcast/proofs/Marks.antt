@@ -4,14 +4,14 @@ use mathlib.Core.Path.{◌≡◌, refl, sym, ◌∙◌, ap}
 use mathlib.Core.Bool.{Bool, true, false}
 use mathlib.Core.List.{List}
 use mathlib.Core.Logic.{◌⊎◌, inl, inr}
-use Prim.Native.Nat.{ℕ, ◌+◌, ◌-◌, ◌≤◌, ◌<◌}
+use Prim.Native.Nat.{ℕ, ◌+◌, ◌≤◌, ◌<◌}
 use native.Mathlib.Omega.{arith}
 use lib.Dec.{eqb, leb, ltb}
 use lib.ListN.{length, get_or, set, length-set, get_or-eq_default}
 use lib.Seq.{get_or-set_same, get_or-set_other}
 use borrow.Author.Tests.{eqb-true, eqb-false, eq-eqb, ne_eqb, ltb-true, ltb-false, lt-ltb, le-ltb, lt-leb}
 use Rattle.combine.specs.Tests.{pick, both, either, any_below}
-use Rattle.combine.proofs.Tests.{cases, never, both_ways, both_left, both_right, both_true, both_false, both_either, either_left, either_right, either_cases, either_true, either_false, any_in, any_some, any_cong}
+use Rattle.combine.proofs.Tests.{cases, never, both_ways, both_left, both_right, both_true, both_false, both_either, either_left, either_right, either_cases, either_false, any_in, any_some, any_cong}
 use Rattle.broadcast.specs.Broadcasts.{none}
 use Rattle.broadcast.specs.Sweeps.{fresh, swept, Sweep}
 

@@ -28,7 +28,7 @@ use Rattle.plan.proofs.Asks.{told_fitted}
 use Rattle.counted.specs.Counted.{port_fitted, counted_at, counted}
 use Rattle.counted.proofs.Counted.{cell_fitted, port_link, counted_code, counted_sound, counted_part}
 use Rattle.local.specs.Local.{cell_size, first_of}
-use Rattle.ends.specs.Tables.{levels, far_count, step_length, far_code, far_at_lem, step_table}
+use Rattle.ends.specs.Tables.{levels, far_count, step_length, far_code, far_at, step_table}
 use Rattle.ends.specs.Filling.{spread, layered, port_code, run_code, run_counted, table_counted}
 use Rattle.ends.proofs.Spread.{spread_ahead, spread_cong, layered_later, put_behind, layered_all}
 use Rattle.ends.proofs.Answers.{part_length, length-step}
@@ -130,7 +130,7 @@ module _ (h : Hall) (table : List ℕ) (me : ℕ) (s : Sound h table me) (room :
   near = part h (counted h 0 table) me
 
   abbrev far : List ℕ
-  far = up_to (far_at_lem h (counted h 0 table) me) (far_count h)
+  far = up_to (far_at h (counted h 0 table) me) (far_count h)
 
   near_at : (q : ℕ) → q < cell_length h h.b → get_or plain (0 + q) 0 ≡ get_or (part h table me) q 0
   unfolding step_table step_length
@@ -138,15 +138,15 @@ module _ (h : Hall) (table : List ℕ) (me : ℕ) (s : Sound h table me) (room :
       let z : 0 + q ≡ q = omega arith in
       rw z
       (get_or-append {A = ℕ} (step_table h table me) (drop (length (step_table h table me)) room) 0 q (omega (arith, length-step h table me s))
-      ∙ get_or-append {A = ℕ} (part h table me) (up_to (far_at_lem h table me) (far_count h)) 0 q (omega (arith, part_length h table me s)))
+      ∙ get_or-append {A = ℕ} (part h table me) (up_to (far_at h table me) (far_count h)) 0 q (omega (arith, part_length h table me s)))
 
-  far_at_lem : (q : ℕ) → q < far_count h → get_or plain (cell_length h h.b + q) 0 ≡ far_at_lem h table me q
+  far_at_lem : (q : ℕ) → q < far_count h → get_or plain (cell_length h h.b + q) 0 ≡ far_at h table me q
   unfolding step_table step_length
   far_at_lem q l =
       get_or-append {A = ℕ} (step_table h table me) (drop (length (step_table h table me)) room) 0 (cell_length h h.b + q) (omega (arith, length-step h table me s))
       ∙ ap (λ (i : ℕ). get_or (step_table h table me) (i + q) 0) (sym (part_length h table me s))
-      ∙ get_or-append-add {A = ℕ} (part h table me) (up_to (far_at_lem h table me) (far_count h)) q 0
-      ∙ get_or-up_to (far_at_lem h table me) (far_count h) q 0 l
+      ∙ get_or-append-add {A = ℕ} (part h table me) (up_to (far_at h table me) (far_count h)) q 0
+      ∙ get_or-up_to (far_at h table me) (far_count h) q 0 l
 
   -- the part, counted
   part_counted : run_counted h me 0 (h.k + 1) plain 0 ≡ put plain 0 near
@@ -170,9 +170,9 @@ module _ (h : Hall) (table : List ℕ) (me : ℕ) (s : Sound h table me) (room :
 
   -- and then the far codes, counted
   far_codes_counted : run_counted h me (h.b + 1) (levels h) (put plain 0 near) (cell_length h h.b) ≡ put (put plain 0 near) (cell_length h h.b) far
-  unfolding run_counted run_code far_at_lem far_count
+  unfolding run_counted run_code far_at far_count
   far_codes_counted = ap (put (put plain 0 near) (cell_length h h.b))
-      (up_to_cong (run_code h (first_of h me) (h.b + 1) (levels h) (put plain 0 near) (cell_length h h.b)) (far_at_lem h (counted h 0 table) me) (far_count h)
+      (up_to_cong (run_code h (first_of h me) (h.b + 1) (levels h) (put plain 0 near) (cell_length h h.b)) (far_at h (counted h 0 table) me) (far_count h)
       (λ q l.
       let i : ℕ = suc h.b + q % levels h in
       let z : h.b + 1 + q % levels h ≡ i = omega arith in

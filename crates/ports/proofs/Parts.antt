@@ -17,7 +17,7 @@ use Rattle.hall.specs.Halls.{places, valid, servers, asks_hall, asks_uid}
 use Rattle.hall.specs.Refusals.{refusal, in_order, bad_hall, bad_length, bad_uid, bad_code}
 use Rattle.hall.proofs.Asks.{refusal_in_order, unrefused_hold}
 use Rattle.hall.proofs.Growth.{valid_known, valid_pos, valid_size, valid_servers, some_servers}
-use Rattle.ports.specs.Codes.{largest_table, all_known_lem, first_unknown, table_length, cell_length, run, part}
+use Rattle.ports.specs.Codes.{largest_table, all_known, first_unknown, table_length, cell_length, run, part}
 use Rattle.ports.specs.Answers.{asks_table, check_of, part_refusal, part_of}
 use Rattle.ports.specs.declared.TableCheck.{TableCheck}
 use Rattle.ports.proofs.Tables.{all_known_lem, some_unknown}
@@ -92,10 +92,10 @@ table_fits h v =
 
 -- the four answers of the table check
 module _ (h : Hall) (table : List ℕ) where
-  check_asks : refusal (asks_hall h ∷ asks_table h table ∷ (bad_code, all_known_lem table) ∷ [])
-      ≡ pick (valid h) (pick (eqb (length table) (table_length h)) (pick (all_known_lem table) 0 bad_code) bad_length) bad_hall
+  check_asks : refusal (asks_hall h ∷ asks_table h table ∷ (bad_code, all_known table) ∷ [])
+      ≡ pick (valid h) (pick (eqb (length table) (table_length h)) (pick (all_known table) 0 bad_code) bad_length) bad_hall
   unfolding in_order
-  check_asks = refusal_in_order (asks_hall h ∷ asks_table h table ∷ (bad_code, all_known_lem table) ∷ []) refl
+  check_asks = refusal_in_order (asks_hall h ∷ asks_table h table ∷ (bad_code, all_known table) ∷ []) refl
 
   pub check_hall : valid h ≡ false → ◌≡◌ {A = TableCheck} (record { refusal = 1; place = 0 }) (check_of h table)
   check_hall v = rw (check_asks, v)

@@ -20,12 +20,12 @@ pub returns-then-not-entry_fits : goal.returns-then-not-entry_fits
 unfolding tuple_fits
 returns-then-not-entry_fits c =
     let f = c.entry_fits in
-    sym (all_fails _ places _ (omega arith) (sym f.ensures ∙ not-true f.result c.if-not-entry_fits.true-raw))
+    sym (all_fails _ places _ (omega arith) (sym f.ensures ∙ c.if-not-entry_fits.true))
 
 pub loop-i-preserved : goal.loop-i-preserved
 loop-i-preserved c =
     let f = c.entry_fits in
-    (omega arith, all_more _ _ ∙ both_true _ _ c.loop-i.invariant.1 (sym f.ensures ∙ not-false f.result c.if-not-entry_fits.false-raw))
+    (omega arith, all_more _ _ ∙ both_true _ _ c.loop-i.invariant.1 (sym f.ensures ∙ c.if-not-entry_fits.false))
 
 pub returns : goal.returns
 unfolding tuple_fits

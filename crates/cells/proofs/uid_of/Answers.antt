@@ -29,16 +29,16 @@ pub returns-then-not-tuple_fits : goal.returns-then-not-tuple_fits
 unfolding refusal
 returns-then-not-tuple_fits c =
     let f = c.tuple_fits in
-    rw (sound (goal.at.returns-then-not-tuple_fits c).Else-sizes-ne0, ← f.ensures, not-true f.result c.if-not-tuple_fits.true-raw)
+    rw (sound (goal.at.returns-then-not-tuple_fits c).Else-sizes-ne0, ← f.ensures, c.if-not-tuple_fits.true)
 
 pub uid_up_to-requires : goal.uid_up_to-requires
 uid_up_to-requires c =
     let k = valid_known _ (sound (goal.at.uid_up_to-requires c).Else-sizes-ne0) in
     let f = c.tuple_fits in
-    (k.sized, sym f.ensures ∙ not-false f.result c.if-not-tuple_fits.false-raw)
+    (k.sized, sym f.ensures ∙ c.if-not-tuple_fits.false)
 
 pub returns : goal.returns
 unfolding refusal
 returns c =
     let f = c.tuple_fits in
-    rw (sound (goal.at.returns c).Else-sizes-ne0, ← f.ensures, not-false f.result c.if-not-tuple_fits.false-raw, c.uid_up_to.ensures)
+    rw (sound (goal.at.returns c).Else-sizes-ne0, ← f.ensures, c.if-not-tuple_fits.false, c.uid_up_to.ensures)

@@ -17,16 +17,16 @@ told : (c : After-is_fitted) → let a = c.args in port_fitted a.h a.uid a.port 
 told c = port_told c.args.h (omega (arith, (valid_known _ c.requires.0).n_low)) c.requires.0 c.args.uid c.args.port c.neighbour_of.result.uid
     c.requires.1 c.if-port-lt2.false c.requires.2
     (ap (λ (r : Neighbour). r.uid) c.neighbour_of.ensures ∙ neighbour_told _ _ _ c.requires.0 c.requires.1 (omega (arith, c.if-port-lt2.false)) c.requires.2)
-    c.is_fitted.result c.is_fitted.ensures (sym c.requires.3 ∙ not-false c.args.here c.if-not-here.false-raw)
+    c.is_fitted.result c.is_fitted.ensures (sym c.requires.3 ∙ c.if-not-here.false)
 
 pub returns-then-not-here : goal.returns-then-not-here
-returns-then-not-here c = rw (port_none c.args.h c.args.uid c.args.port (sym c.requires.3 ∙ not-true c.args.here c.if-not-here.true-raw))
+returns-then-not-here c = rw (port_none c.args.h c.args.uid c.args.port (sym c.requires.3 ∙ c.if-not-here.true))
 
 pub returns-then-port-lt2 : goal.returns-then-port-lt2
-returns-then-port-lt2 c = rw (port_near c.args.h (omega (arith, (valid_known _ c.requires.0).n_low)) c.args.uid c.args.port c.if-port-lt2.true (sym c.requires.3 ∙ not-false c.args.here c.if-not-here.false-raw))
+returns-then-port-lt2 c = rw (port_near c.args.h (omega (arith, (valid_known _ c.requires.0).n_low)) c.args.uid c.args.port c.if-port-lt2.true (sym c.requires.3 ∙ c.if-not-here.false))
 
 pub returns-then-not-is_fitted : goal.returns-then-not-is_fitted
-returns-then-not-is_fitted c = rw (told (goal.at.returns-then-not-is_fitted c).After-is_fitted, not-true c.is_fitted.result c.if-not-is_fitted.true-raw)
+returns-then-not-is_fitted c = rw (told (goal.at.returns-then-not-is_fitted c).After-is_fitted, c.if-not-is_fitted.true)
 
 pub returns : goal.returns
-returns c = rw (told (goal.at.returns c).After-is_fitted, not-false c.is_fitted.result c.if-not-is_fitted.false-raw)
+returns c = rw (told (goal.at.returns c).After-is_fitted, c.if-not-is_fitted.false)

@@ -4,10 +4,10 @@ use native.Mathlib.Omega.{arith}
 use Rattle.forward.proofs.first_level.Goals as goal
 
 pub returns-then-not-arrived : goal.returns-then-not-arrived
-returns-then-not-arrived c = rw (not-true c.args.arrived c.if-not-arrived.true-raw) (omega arith)
+returns-then-not-arrived c = rw c.if-not-arrived.true (omega arith)
 
 pub returns-then-h-level : goal.returns-then-h-level
-returns-then-h-level c = rw (not-false c.args.arrived c.if-not-arrived.false-raw, le-ltb _ _ c.if-h-level.true) (omega arith)
+returns-then-h-level c = rw (c.if-not-arrived.false, le-ltb _ _ c.if-h-level.true) (omega arith)
 
 pub returns : goal.returns
-returns c = rw (not-false c.args.arrived c.if-not-arrived.false-raw, lt-ltb _ _ c.if-h-level.false)
+returns c = rw (c.if-not-arrived.false, lt-ltb _ _ c.if-h-level.false)

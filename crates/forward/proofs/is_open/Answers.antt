@@ -6,7 +6,7 @@ use Rattle.forward.proofs.CodeTables.{far_there, open_not, open_far}
 use Rattle.forward.proofs.is_open.Goals as goal
 
 pub returns-then-not-is_up : goal.returns-then-not-is_up
-returns-then-not-is_up c = let f = c.is_up in open_not _ _ _ c.requires.0 _ _ f.ensures (not-true f.result c.if-not-is_up.true-raw)
+returns-then-not-is_up c = let f = c.is_up in open_not _ _ _ c.requires.0 _ _ f.ensures c.if-not-is_up.true
 
 pub far_place-at-requires : goal.far_place-at-requires
 far_place-at-requires c = c.requires.0
@@ -18,4 +18,4 @@ bounds-table-at c =
 pub returns : goal.returns
 returns c =
     let f = c.is_up in
-    open_far _ _ _ c.requires.0 _ _ f.ensures (not-false f.result c.if-not-is_up.false-raw) _ c.far_place-at.ensures
+    open_far _ _ _ c.requires.0 _ _ f.ensures c.if-not-is_up.false _ c.far_place-at.ensures

@@ -7,12 +7,12 @@ use Rattle.forward.proofs.CodeTables.{own_length, own_open, place_closed, neighb
 use Rattle.forward.proofs.is_up_at.Goals as goal
 
 pub is_open-requires : goal.is_open-requires
-is_open-requires c = let a = c.requires in (a.1, own_length _ _ _ _ a.0 (not-true _ c.if-not-whole.true-raw))
+is_open-requires c = let a = c.requires in (a.1, own_length _ _ _ _ a.0 c.if-not-whole.true)
 
 pub returns-then-not-whole : goal.returns-then-not-whole
 returns-then-not-whole c =
     let a = c.args in
-    c.is_open.ensures ∙ own_open _ a.whole _ _ a.me _ (not-true a.whole c.if-not-whole.true-raw)
+    c.is_open.ensures ∙ own_open _ a.whole _ _ a.me _ c.if-not-whole.true
 
 pub uid_at-near-requires : goal.uid_at-near-requires
 uid_at-near-requires c = let a = c.requires in (a.0.sound, a.0.fits, a.1.inside)
@@ -21,11 +21,11 @@ pub returns-then-not-is_up : goal.returns-then-not-is_up
 returns-then-not-is_up c =
     let a = c.requires in
     let f = c.is_up in
-    place_closed _ _ _ _ _ _ a.0 a.1 (not-false _ c.if-not-whole.false-raw) _ c.uid_at-near.ensures _ f.ensures (not-true f.result c.if-not-is_up.true-raw)
+    place_closed _ _ _ _ _ _ a.0 a.1 c.if-not-whole.false _ c.uid_at-near.ensures _ f.ensures c.if-not-is_up.true
 
 pub returns : goal.returns
 returns c =
     let a = c.requires in
     let f = c.is_up in
-    neighbour_decides _ _ _ _ _ _ a.0 a.1 (not-false _ c.if-not-whole.false-raw) _ c.uid_at-near.ensures _ f.ensures (not-false f.result c.if-not-is_up.false-raw)
+    neighbour_decides _ _ _ _ _ _ a.0 a.1 c.if-not-whole.false _ c.uid_at-near.ensures _ f.ensures c.if-not-is_up.false
     _ (proxy_is _ _ _ _ (record { above = a.1; fits = a.0.fits }) _ c.uid_at-near.ensures _ c.neighbour_of.ensures) _ c.is_up-2.ensures

@@ -23,18 +23,18 @@ pub is_open-requires : goal.is_open-requires
 is_open-requires c =
     let a = c.requires in (
       record { sound = a.here.sound; inside = place_under _ (valid_known _ a.here.sound) _ _ (sized (goal.at.is_open-requires c).After-cell_size); low = a.low; high = a.high },
-      own_length _ _ _ _ a.here (not-true _ c.if-not-whole.true-raw),
+      own_length _ _ _ _ a.here c.if-not-whole.true,
     )
 
 pub returns-then-not-whole : goal.returns-then-not-whole
-returns-then-not-whole c = c.is_open.ensures ∙ own_usable _ c.args.whole _ _ _ _ (not-true _ c.if-not-whole.true-raw) (sized (goal.at.returns-then-not-whole c).After-cell_size)
+returns-then-not-whole c = c.is_open.ensures ∙ own_usable _ c.args.whole _ _ _ _ c.if-not-whole.true (sized (goal.at.returns-then-not-whole c).After-cell_size)
 
 pub returns-then-not-is_up : goal.returns-then-not-is_up
 returns-then-not-is_up c =
     let f = c.is_up in
-    near_closed _ _ _ _ _ _ c.requires (not-false _ c.if-not-whole.false-raw) _ f.ensures (not-true f.result c.if-not-is_up.true-raw)
+    near_closed _ _ _ _ _ _ c.requires c.if-not-whole.false _ f.ensures c.if-not-is_up.true
 
 pub returns : goal.returns
 returns c =
     let f = c.is_up in
-    far_decides _ _ _ _ _ _ c.requires (not-false _ c.if-not-whole.false-raw) _ f.ensures (not-false f.result c.if-not-is_up.false-raw) _ c.is_up-2.ensures
+    far_decides _ _ _ _ _ _ c.requires c.if-not-whole.false _ f.ensures c.if-not-is_up.false _ c.is_up-2.ensures

@@ -9,7 +9,7 @@ pub returns-then-not-is_up_at : goal.returns-then-not-is_up_at
 returns-then-not-is_up_at c =
     let a = c.requires in
     let f = c.is_up_at in
-    place_shut _ _ _ _ _ _ _ a.0 a.1 f.ensures (not-true f.result c.if-not-is_up_at.true-raw)
+    place_shut _ _ _ _ _ _ _ a.0 a.1 f.ensures c.if-not-is_up_at.true
 
 pub is_full-requires : goal.is_full-requires
 is_full-requires c = c.requires.0.sound
@@ -19,7 +19,7 @@ returns-then-is_full c =
     let a = c.requires in
     let f = c.is_up_at in
     let g = c.is_full in
-    place_full _ _ _ _ _ _ _ a.0 a.1 f.ensures (not-false f.result c.if-not-is_up_at.false-raw) (sym g.ensures ∙ c.if-is_full.true)
+    place_full _ _ _ _ _ _ _ a.0 a.1 f.ensures c.if-not-is_up_at.false (sym g.ensures ∙ c.if-is_full.true)
 
 pub proxy_of-requires : goal.proxy_of-requires
 proxy_of-requires c = let a = c.requires in record { above = a.1; fits = a.0.fits }
@@ -31,4 +31,4 @@ pub returns : goal.returns
 returns c =
     let a = c.requires in
     let f = c.is_up_at in
-    place_fitted _ _ _ _ _ _ _ a.0 a.1 f.ensures (not-false f.result c.if-not-is_up_at.false-raw) _ c.proxy_of.ensures _ c.are_fitted.ensures
+    place_fitted _ _ _ _ _ _ _ a.0 a.1 f.ensures c.if-not-is_up_at.false _ c.proxy_of.ensures _ c.are_fitted.ensures

@@ -20,10 +20,10 @@ long : (c : After-bytes_of-bytes) → let h = c.args.h in c.bytes_of-bytes.resul
 long c = c.bytes_of-bytes.ensures ∙ bytes_are c.args.h _ c.cell_size-cell.ensures
 
 pub slice_bounds-result-end : goal.slice_bounds-result-end
-slice_bounds-result-end c = own_within _ _ _ _ c.requires _ (lent_long (goal.at.slice_bounds-result-end c).After-bytes_of-lent) (not-true _ c.if-not-whole.true-raw)
+slice_bounds-result-end c = own_within _ _ _ _ c.requires _ (lent_long (goal.at.slice_bounds-result-end c).After-bytes_of-lent) c.if-not-whole.true
 
 pub returns-then-not-whole : goal.returns-then-not-whole
-returns-then-not-whole c = own_first _ _ _ _ c.requires _ (lent_long (goal.at.returns-then-not-whole c).After-bytes_of-lent) (not-true _ c.if-not-whole.true-raw)
+returns-then-not-whole c = own_first _ _ _ _ c.requires _ (lent_long (goal.at.returns-then-not-whole c).After-bytes_of-lent) c.if-not-whole.true
 
 pub cell_size-cell-requires : goal.cell_size-cell-requires
 cell_size-cell-requires c = c.requires.sound
@@ -35,14 +35,14 @@ pub overflow_cast-from : goal.overflow_cast-from
 overflow_cast-from c = omega (arith, div-le_self c.args.me c.cell_size-cell.result)
 
 pub overflow_mul-from : goal.overflow_mul-from
-overflow_mul-from c = omega (arith, part_within _ _ _ _ c.requires _ (long (goal.at.overflow_mul-from c).After-bytes_of-bytes) (not-false _ c.if-not-whole.false-raw) _ c.cell_size-cell.ensures)
+overflow_mul-from c = omega (arith, part_within _ _ _ _ c.requires _ (long (goal.at.overflow_mul-from c).After-bytes_of-bytes) c.if-not-whole.false _ c.cell_size-cell.ensures)
 
 pub overflow_add-to : goal.overflow_add-to
-overflow_add-to c = omega (arith, part_within _ _ _ _ c.requires _ (long (goal.at.overflow_add-to c).After-bytes_of-bytes) (not-false _ c.if-not-whole.false-raw) _ c.cell_size-cell.ensures)
+overflow_add-to c = omega (arith, part_within _ _ _ _ c.requires _ (long (goal.at.overflow_add-to c).After-bytes_of-bytes) c.if-not-whole.false _ c.cell_size-cell.ensures)
 
 pub slice_bounds-result-end-2 : goal.slice_bounds-result-end-2
-slice_bounds-result-end-2 c = part_within _ _ _ _ c.requires _ (long (goal.at.slice_bounds-result-end-2 c).After-bytes_of-bytes) (not-false _ c.if-not-whole.false-raw) _ c.cell_size-cell.ensures
+slice_bounds-result-end-2 c = part_within _ _ _ _ c.requires _ (long (goal.at.slice_bounds-result-end-2 c).After-bytes_of-bytes) c.if-not-whole.false _ c.cell_size-cell.ensures
 
 pub returns : goal.returns
 returns c =
-    part_first _ _ _ _ c.requires _ (long (goal.at.returns c).After-bytes_of-bytes) (not-false _ c.if-not-whole.false-raw) _ c.cell_size-cell.ensures
+    part_first _ _ _ _ c.requires _ (long (goal.at.returns c).After-bytes_of-bytes) c.if-not-whole.false _ c.cell_size-cell.ensures

@@ -14,7 +14,7 @@ pub returns-then-not-proxy_fits : goal.returns-then-not-proxy_fits
 returns-then-not-proxy_fits c =
     let a = c.args in
     let f = c.proxy_fits in
-    refuses_proxy a.servers a.uid a.p _ f.ensures c.if-servers-uid.false c.if-servers-p.false (not-true f.result c.if-not-proxy_fits.true-raw)
+    refuses_proxy a.servers a.uid a.p _ f.ensures c.if-servers-uid.false c.if-servers-p.false c.if-not-proxy_fits.true
 
 pub returns-then-p-gt-MOST_RETRY : goal.returns-then-p-gt-MOST_RETRY
 returns-then-p-gt-MOST_RETRY c =
@@ -22,7 +22,7 @@ returns-then-p-gt-MOST_RETRY c =
     let l = c.if-servers-uid.false in
     let m = c.if-servers-p.false in
     let a = c.args in
-    refuses_retry a.servers a.uid a.p _ f.ensures l m (not-false f.result c.if-not-proxy_fits.false-raw) c.if-p-gt-MOST_RETRY.true
+    refuses_retry a.servers a.uid a.p _ f.ensures l m c.if-not-proxy_fits.false c.if-p-gt-MOST_RETRY.true
 
 pub returns : goal.returns
 returns c =
@@ -30,4 +30,4 @@ returns c =
     let l = c.if-servers-uid.false in
     let m = c.if-servers-p.false in
     let a = c.args in
-    refuses_nothing a.servers a.uid a.p _ f.ensures l m (not-false f.result c.if-not-proxy_fits.false-raw) c.if-p-gt-MOST_RETRY.false
+    refuses_nothing a.servers a.uid a.p _ f.ensures l m c.if-not-proxy_fits.false c.if-p-gt-MOST_RETRY.false

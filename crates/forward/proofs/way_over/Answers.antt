@@ -17,7 +17,7 @@ returns-then-not-is_usable c =
     let f = c.is_usable in
     let e = c.in-Link.is in
     let u = usable_near _ _ _ _ _ c.requires _ _ _ e _ f.ensures in
-    rw (e, u, not-true f.result c.if-not-is_usable.true-raw)
+    rw (e, u, c.if-not-is_usable.true)
 
 pub returns-then-me-near : goal.returns-then-me-near
 unfolding way_over
@@ -25,7 +25,7 @@ returns-then-me-near c =
     let f = c.is_usable in
     let e = c.in-Link.is in
     let u = usable_near _ _ _ _ _ c.requires _ _ _ e _ f.ensures in
-    rw (e, u, not-false f.result c.if-not-is_usable.false-raw, eq-eqb _ _ c.if-me-near.true)
+    rw (e, u, c.if-not-is_usable.false, eq-eqb _ _ c.if-me-near.true)
 
 pub way_to-requires-in-Link : goal.way_to-requires-in-Link
 way_to-requires-in-Link c = target_near _ _ _ _ _ c.requires _ _ _ c.in-Link.is c.if-me-near.false
@@ -40,5 +40,5 @@ returns-else-me-near c =
     let f = c.is_usable in
     let e = c.in-Link.is in
     let u = usable_near _ _ _ _ _ c.requires _ _ _ e _ f.ensures in
-    rw (e, u, not-false f.result c.if-not-is_usable.false-raw, ne_eqb _ _ c.if-me-near.false)
+    rw (e, u, c.if-not-is_usable.false, ne_eqb _ _ c.if-me-near.false)
     c.way_to-in-Link.ensures

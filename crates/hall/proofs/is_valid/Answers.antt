@@ -8,14 +8,14 @@ use Rattle.hall.proofs.is_valid.Goals as goal
 
 pub returns-then-not-n_fits : goal.returns-then-not-n_fits
 unfolding valid
-returns-then-not-n_fits c = let n = c.n_fits in rw (← n.ensures, not-true n.result c.if-not-n_fits.true-raw)
+returns-then-not-n_fits c = let n = c.n_fits in rw (← n.ensures, c.if-not-n_fits.true)
 
 pub returns-then-not-k_fits : goal.returns-then-not-k_fits
 unfolding valid
 returns-then-not-k_fits c =
     let k = c.k_fits in
     let n = c.n_fits in
-    rw (← n.ensures, not-false n.result c.if-not-n_fits.false-raw, ← k.ensures, not-true k.result c.if-not-k_fits.true-raw)
+    rw (← n.ensures, c.if-not-n_fits.false, ← k.ensures, c.if-not-k_fits.true)
 
 pub returns-then-not-b_fits : goal.returns-then-not-b_fits
 unfolding valid
@@ -25,11 +25,11 @@ returns-then-not-b_fits c =
     let n = c.n_fits in
     rw (
       ← n.ensures,
-      not-false n.result c.if-not-n_fits.false-raw,
+      c.if-not-n_fits.false,
       ← k.ensures,
-      not-false k.result c.if-not-k_fits.false-raw,
+      c.if-not-k_fits.false,
       ← b.ensures,
-      not-true b.result c.if-not-b_fits.true-raw,
+      c.if-not-b_fits.true,
     )
 
 pub count_fits-requires : goal.count_fits-requires
@@ -37,8 +37,8 @@ count_fits-requires c =
     let k = c.k_fits in
     let n = c.n_fits in
     sized_fits _ _
-    (sym n.ensures ∙ not-false n.result c.if-not-n_fits.false-raw)
-    (sym k.ensures ∙ not-false k.result c.if-not-k_fits.false-raw)
+    (sym n.ensures ∙ c.if-not-n_fits.false)
+    (sym k.ensures ∙ c.if-not-k_fits.false)
 
 pub returns : goal.returns
 unfolding valid
@@ -48,10 +48,10 @@ returns c =
     let n = c.n_fits in
     rw (
       ← n.ensures,
-      not-false n.result c.if-not-n_fits.false-raw,
+      c.if-not-n_fits.false,
       ← k.ensures,
-      not-false k.result c.if-not-k_fits.false-raw,
+      c.if-not-k_fits.false,
       ← b.ensures,
-      not-false b.result c.if-not-b_fits.false-raw,
+      c.if-not-b_fits.false,
     )
     c.count_fits.ensures

@@ -8,22 +8,22 @@ use Rattle.hall.proofs.racks_of.Goals as goal
 
 pub returns-then-not-n_fits : goal.returns-then-not-n_fits
 unfolding racks_of
-returns-then-not-n_fits c = let n = c.n_fits in rw (← n.ensures, not-true n.result c.if-not-n_fits.true-raw)
+returns-then-not-n_fits c = let n = c.n_fits in rw (← n.ensures, c.if-not-n_fits.true)
 
 pub returns-then-not-k_fits : goal.returns-then-not-k_fits
 unfolding racks_of
 returns-then-not-k_fits c =
     let k = c.k_fits in
     let n = c.n_fits in
-    rw (← n.ensures, not-false n.result c.if-not-n_fits.false-raw, ← k.ensures, not-true k.result c.if-not-k_fits.true-raw)
+    rw (← n.ensures, c.if-not-n_fits.false, ← k.ensures, c.if-not-k_fits.true)
 
 pub capacity-requires : goal.capacity-requires
 capacity-requires c =
     let k = c.k_fits in
     let n = c.n_fits in
     sized_fits _ _
-    (sym n.ensures ∙ not-false n.result c.if-not-n_fits.false-raw)
-    (sym k.ensures ∙ not-false k.result c.if-not-k_fits.false-raw)
+    (sym n.ensures ∙ c.if-not-n_fits.false)
+    (sym k.ensures ∙ c.if-not-k_fits.false)
 
 pub returns : goal.returns
 unfolding racks_of
@@ -32,8 +32,8 @@ returns c =
     let n = c.n_fits in
     rw (
       ← n.ensures,
-      not-false n.result c.if-not-n_fits.false-raw,
+      c.if-not-n_fits.false,
       ← k.ensures,
-      not-false k.result c.if-not-k_fits.false-raw,
+      c.if-not-k_fits.false,
     )
     c.capacity.ensures

@@ -7,13 +7,13 @@ use Rattle.hall.proofs.Growth.{valid_known}
 use Rattle.hall.proofs.servers_of.Goals as goal
 
 pub returns-then-not-is_valid : goal.returns-then-not-is_valid
-returns-then-not-is_valid c = let v = c.is_valid in rw (← v.ensures, not-true v.result c.if-not-is_valid.true-raw)
+returns-then-not-is_valid c = let v = c.is_valid in rw (← v.ensures, c.if-not-is_valid.true)
 
 pub size-requires : goal.size-requires
 size-requires c =
     let v = c.is_valid in
-    (valid_known _ (sym v.ensures ∙ not-false v.result c.if-not-is_valid.false-raw)).sized
+    (valid_known _ (sym v.ensures ∙ c.if-not-is_valid.false)).sized
 
 pub returns : goal.returns
 unfolding servers
-returns c = let v = c.is_valid in rw (← v.ensures, not-false v.result c.if-not-is_valid.false-raw) c.size.ensures
+returns c = let v = c.is_valid in rw (← v.ensures, c.if-not-is_valid.false) c.size.ensures

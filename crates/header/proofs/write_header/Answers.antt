@@ -14,7 +14,7 @@ pub returns-then-not-addresses_fit : goal.returns-then-not-addresses_fit
 returns-then-not-addresses_fit c =
     let it = let a = c.args in
     let r = c.addresses_fit in
-    write_address a.fields a.room.now c.if-fields-gt-MOST_RETRY.false (sym r.ensures ∙ not-true r.result c.if-not-addresses_fit.true-raw) in record { refusal = it.0; room = it.1 }
+    write_address a.fields a.room.now c.if-fields-gt-MOST_RETRY.false (sym r.ensures ∙ c.if-not-addresses_fit.true) in record { refusal = it.0; room = it.1 }
 
 pub overflow_mul-count_of : goal.overflow_mul-count_of
 overflow_mul-count_of c =
@@ -25,7 +25,7 @@ pub returns-then-room-count_of : goal.returns-then-room-count_of
 returns-then-room-count_of c =
     let it = let a = c.args in
     let r = c.addresses_fit in
-    write_short a.fields a.room.now c.if-fields-gt-MOST_RETRY.false (sym r.ensures ∙ not-false r.result c.if-not-addresses_fit.false-raw)
+    write_short a.fields a.room.now c.if-fields-gt-MOST_RETRY.false (sym r.ensures ∙ c.if-not-addresses_fit.false)
     (omega (arith, c.if-room-count_of.true, c.count_of.ensures)) in record { refusal = it.0; room = it.1 }
 
 pub returns : goal.returns
@@ -33,6 +33,6 @@ returns c =
     let a = c.args in
     let r = c.addresses_fit in
     let d =
-    write_done a.fields a.room.now c.if-fields-gt-MOST_RETRY.false (sym r.ensures ∙ not-false r.result c.if-not-addresses_fit.false-raw)
+    write_done a.fields a.room.now c.if-fields-gt-MOST_RETRY.false (sym r.ensures ∙ c.if-not-addresses_fit.false)
     (omega (arith, c.if-room-count_of.false, c.count_of.ensures)) in
     record { refusal = d.0; room = c.put_header.ensures ∙ d.1 }

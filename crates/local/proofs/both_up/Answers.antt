@@ -6,8 +6,8 @@ use Rattle.local.proofs.both_up.Goals as goal
 
 pub returns-then-not-is_up : goal.returns-then-not-is_up
 unfolding both_up
-returns-then-not-is_up c = let f = c.is_up in rw (← f.ensures, not-true f.result c.if-not-is_up.true-raw)
+returns-then-not-is_up c = let f = c.is_up in rw (← f.ensures, c.if-not-is_up.true)
 
 pub returns : goal.returns
 unfolding both_up
-returns c = let f = c.is_up in rw (← f.ensures, not-false f.result c.if-not-is_up.false-raw) c.is_up-2.ensures
+returns c = let f = c.is_up in rw (← f.ensures, c.if-not-is_up.false) c.is_up-2.ensures

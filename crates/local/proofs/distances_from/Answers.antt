@@ -41,7 +41,7 @@ returns-then-not-one_round c =
     let w = c.loop-r in
     let f = c.one_round in
     record_idle c.args.h c.args.table.now c.args.o w.r w.d _ (valid_known c.args.h c.requires.0) c.requires.1 (omega (arith, sized (goal.at.returns-then-not-one_round c).After-size_of-count)) w.invariant.1
-    f.ensures.writes (sym f.ensures.reaches ∙ not-true f.result c.if-not-one_round.true-raw)
+    f.ensures.writes (sym f.ensures.reaches ∙ c.if-not-one_round.true)
 
 pub overflow_add-r : goal.overflow_add-r
 overflow_add-r c =

@@ -13,7 +13,7 @@ returns-then-not-is_up c =
     let v = valid_known c.args.h c.requires.0 in
     let f = c.is_up in
     beside_down c.args.h c.args.table.now v c.requires.1 c.args.x c.requires.2 c.args.d.now c.args.r c.args.count c.requires.3
-    (sym f.ensures ∙ not-true f.result c.if-not-is_up.true-raw)
+    (sym f.ensures ∙ c.if-not-is_up.true)
 
 pub nonzero_div-s : goal.nonzero_div-s
 nonzero_div-s c = let v = valid_known _ c.requires.0 in omega arith
@@ -39,7 +39,7 @@ returns-then-i-h c =
     let f = c.is_up in
     let g = c.lowest_giving-i in
     beside_found c.args.h c.args.table.now v c.requires.1 c.args.x c.requires.2 c.args.d.now c.args.r c.args.count c.requires.3 g.result g.ensures c.if-i-h.true c.requires.4
-    (sym f.ensures ∙ not-false f.result c.if-not-is_up.false-raw)
+    (sym f.ensures ∙ c.if-not-is_up.false)
 
 pub returns : goal.returns
 returns c =

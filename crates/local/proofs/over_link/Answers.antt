@@ -4,7 +4,7 @@ use borrow.Author.Tests.{not-true, not-false}
 use Rattle.local.proofs.over_link.Goals as goal
 
 pub returns-then-not-is_reached : goal.returns-then-not-is_reached
-returns-then-not-is_reached c = let f = c.is_reached in rw (← f.ensures, not-true f.result c.if-not-is_reached.true-raw)
+returns-then-not-is_reached c = let f = c.is_reached in rw (← f.ensures, c.if-not-is_reached.true)
 
 pub returns : goal.returns
-returns c = let f = c.is_reached in rw (← f.ensures, not-false f.result c.if-not-is_reached.false-raw) c.both_up.ensures
+returns c = let f = c.is_reached in rw (← f.ensures, c.if-not-is_reached.false) c.both_up.ensures

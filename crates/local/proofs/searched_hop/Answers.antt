@@ -52,7 +52,7 @@ returns-then-not-one_round c =
     let e = sized (goal.at.returns-then-not-one_round c).After-size_of-count in
     e ∙ hop_idle c.args.h c.args.table.now v c.args.x c.args.y c.requires.1 c.requires.2 w.rounds w.d w.invariant.1
     (unmet_before c.args.h c.args.table.now v c.args.x c.args.y c.requires.1 c.requires.2 w.rounds w.invariant.2)
-    (omega (arith, e)) (sym f.ensures.reaches ∙ not-true f.result c.if-not-one_round.true-raw)
+    (omega (arith, e)) (sym f.ensures.reaches ∙ c.if-not-one_round.true)
 
 pub overflow_add-rounds : goal.overflow_add-rounds
 overflow_add-rounds c =

@@ -15,12 +15,12 @@ loop-i-init c = c.known_blocks-i.ensures
 pub returns-then-not-is_known : goal.returns-then-not-is_known
 returns-then-not-is_known c =
     let k = c.is_known in
-    sym (unknown_here _ _ c.loop-i-test.true (sym k.ensures ∙ not-true k.result c.if-not-is_known.true-raw)) ∙ c.loop-i.invariant
+    sym (unknown_here _ _ c.loop-i-test.true (sym k.ensures ∙ c.if-not-is_known.true)) ∙ c.loop-i.invariant
 
 pub loop-i-preserved : goal.loop-i-preserved
 loop-i-preserved c =
     let k = c.is_known in
-    sym (unknown_next _ _ c.loop-i-test.true (sym k.ensures ∙ not-false k.result c.if-not-is_known.false-raw)) ∙ c.loop-i.invariant
+    sym (unknown_next _ _ c.loop-i-test.true (sym k.ensures ∙ c.if-not-is_known.false)) ∙ c.loop-i.invariant
 
 pub returns : goal.returns
 returns c = sym (unknown_end _ _ c.loop-i-test.false) ∙ c.loop-i.invariant

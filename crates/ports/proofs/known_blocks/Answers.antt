@@ -15,4 +15,4 @@ loop-from-init c = unknown_start _
 pub loop-from-preserved : goal.loop-from-preserved
 loop-from-preserved c =
     let k = c.all_known in
-    sym (unknown_block _ _ _ (omega arith) (omega arith) (sym k.ensures ∙ not-false k.result c.if-not-all_known.false-raw)) ∙ c.loop-from.invariant
+    sym (unknown_block _ _ _ (omega arith) (omega arith) (sym k.ensures ∙ c.if-not-all_known.false)) ∙ c.loop-from.invariant

@@ -20,7 +20,7 @@ broadcast_alone false p = refl
 
 pub returns-then-not-is_server : goal.returns-then-not-is_server
 unfolding addresses_fit
-returns-then-not-is_server c = let s = c.is_server in rw (← s.ensures, not-true s.result c.if-not-is_server.true-raw)
+returns-then-not-is_server c = let s = c.is_server in rw (← s.ensures, c.if-not-is_server.true)
 
 pub returns-then-not-is_server-2 : goal.returns-then-not-is_server-2
 unfolding addresses_fit
@@ -28,7 +28,7 @@ returns-then-not-is_server-2 c =
     let d = c.is_server-then-has_proxy in
     let s = c.is_server in
     let a = c.args in
-    rw (← s.ensures, not-false s.result c.if-not-is_server.false-raw, c.if-has_proxy.true, ← d.ensures, not-true d.result c.if-not-is_server-2.true-raw)
+    rw (← s.ensures, c.if-not-is_server.false, c.if-has_proxy.true, ← d.ensures, c.if-not-is_server-2.true)
     (broadcast_with_proxy (broadcast a.destination) (server a.proxy))
 
 pub returns-then-has_proxy : goal.returns-then-has_proxy
@@ -36,7 +36,7 @@ unfolding addresses_fit
 returns-then-has_proxy c =
     let d = c.is_server-then-has_proxy in
     let s = c.is_server in
-    rw (← s.ensures, not-false s.result c.if-not-is_server.false-raw, c.if-has_proxy.true, ← d.ensures, not-false d.result c.if-not-is_server-2.false-raw)
+    rw (← s.ensures, c.if-not-is_server.false, c.if-has_proxy.true, ← d.ensures, c.if-not-is_server-2.false)
     c.is_server-then-has_proxy-2.ensures
 
 pub returns-then-is_server : goal.returns-then-is_server
@@ -44,12 +44,12 @@ unfolding addresses_fit
 returns-then-is_server c =
     let d = c.is_server-2 in
     let s = c.is_server in
-    rw (← s.ensures, not-false s.result c.if-not-is_server.false-raw, c.if-has_proxy.false, ← d.ensures, c.if-is_server.true)
+    rw (← s.ensures, c.if-not-is_server.false, c.if-has_proxy.false, ← d.ensures, c.if-is_server.true)
 
 pub returns : goal.returns
 unfolding addresses_fit
 returns c =
     let d = c.is_server-2 in
     let s = c.is_server in
-    rw (← s.ensures, not-false s.result c.if-not-is_server.false-raw, c.if-has_proxy.false, ← d.ensures, c.if-is_server.false, ← c.is_broadcast.ensures)
+    rw (← s.ensures, c.if-not-is_server.false, c.if-has_proxy.false, ← d.ensures, c.if-is_server.false, ← c.is_broadcast.ensures)
     (broadcast_alone _ false)

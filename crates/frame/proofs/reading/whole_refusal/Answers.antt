@@ -70,7 +70,7 @@ returns-then-not-addresses_fit c =
     let r = c.addresses_fit in
     whole_address (length f) (value_in (word_at f)) (sum_in f) (omega (arith, t.counted, c.if-frame-count.false))
     (checksum_read f a.count _ t _ c.word_at-third.ensures ∙ c.if-third-checksum_of.false ∙ sum-read f a.count _ t _ c.checksum_of.ensures)
-    (addresses f a.count _ t bytes _ _ _ c.word_at-source.ensures c.word_at-destination.ensures c.proxy_of-proxy.ensures ∙ sym r.ensures ∙ not-true r.result c.if-not-addresses_fit.true-raw)
+    (addresses f a.count _ t bytes _ _ _ c.word_at-source.ensures c.word_at-destination.ensures c.proxy_of-proxy.ensures ∙ sym r.ensures ∙ c.if-not-addresses_fit.true)
 
 pub word_at-first-requires : goal.word_at-first-requires
 word_at-first-requires c = let n = told_fits _ _ _ c.requires in omega (arith, n.0, c.if-frame-count.false)
@@ -90,7 +90,7 @@ returns-then-frame-end c =
     let r = c.addresses_fit in
     whole_payload (length f) (value_in (word_at f)) (sum_in f) (omega (arith, t.counted, c.if-frame-count.false))
     (checksum_read f a.count _ t _ c.word_at-third.ensures ∙ c.if-third-checksum_of.false ∙ sum-read f a.count _ t _ c.checksum_of.ensures)
-    (addresses f a.count _ t bytes _ _ _ c.word_at-source.ensures c.word_at-destination.ensures c.proxy_of-proxy.ensures ∙ sym r.ensures ∙ not-false r.result c.if-not-addresses_fit.false-raw)
+    (addresses f a.count _ t bytes _ _ _ c.word_at-source.ensures c.word_at-destination.ensures c.proxy_of-proxy.ensures ∙ sym r.ensures ∙ c.if-not-addresses_fit.false)
     (omega (arith, paid f a.count _ t _ c.word_at-first.ensures, c.if-frame-end.true))
 
 pub returns : goal.returns
@@ -102,5 +102,5 @@ returns c =
     let r = c.addresses_fit in
     whole_sound (length f) (value_in (word_at f)) (sum_in f) (omega (arith, t.counted, c.if-frame-count.false))
     (checksum_read f a.count _ t _ c.word_at-third.ensures ∙ c.if-third-checksum_of.false ∙ sum-read f a.count _ t _ c.checksum_of.ensures)
-    (addresses f a.count _ t bytes _ _ _ c.word_at-source.ensures c.word_at-destination.ensures c.proxy_of-proxy.ensures ∙ sym r.ensures ∙ not-false r.result c.if-not-addresses_fit.false-raw)
+    (addresses f a.count _ t bytes _ _ _ c.word_at-source.ensures c.word_at-destination.ensures c.proxy_of-proxy.ensures ∙ sym r.ensures ∙ c.if-not-addresses_fit.false)
     (omega (arith, paid f a.count _ t _ c.word_at-first.ensures, c.if-frame-end.false))

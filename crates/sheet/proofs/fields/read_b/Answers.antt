@@ -15,9 +15,9 @@ returns-in_default c =
 pub returns-then-not-b_fits : goal.returns-then-not-b_fits
 returns-then-not-b_fits c =
     let f = c.read_byte-byte in
-    failed _ 1 _ _ _ f.result f.ensures (b_fits c.args.k) bad_hall c.in-Value.is (sym c.b_fits.ensures ∙ not-true c.b_fits.result c.if-not-b_fits.true-raw)
+    failed _ 1 _ _ _ f.result f.ensures (b_fits c.args.k) bad_hall c.in-Value.is (sym c.b_fits.ensures ∙ c.if-not-b_fits.true)
 
 pub returns : goal.returns
 returns c =
     let f = c.read_byte-byte in
-    passed _ 1 _ _ _ f.result f.ensures (b_fits c.args.k) bad_hall c.in-Value.is (sym c.b_fits.ensures ∙ not-false c.b_fits.result c.if-not-b_fits.false-raw)
+    passed _ 1 _ _ _ f.result f.ensures (b_fits c.args.k) bad_hall c.in-Value.is (sym c.b_fits.ensures ∙ c.if-not-b_fits.false)

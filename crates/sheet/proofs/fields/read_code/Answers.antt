@@ -31,7 +31,7 @@ pub returns-then-not-is_known : goal.returns-then-not-is_known
 returns-then-not-is_known c =
     let a = c.args in
     let r = c.is_known in
-    wrong a.sheet.now a.at (omega arith) r.result r.ensures (not-true r.result c.if-not-is_known.true-raw)
+    wrong a.sheet.now a.at (omega arith) r.result r.ensures c.if-not-is_known.true
 
 pub overflow_cast-result-2 : goal.overflow_cast-result-2
 overflow_cast-result-2 c = omega (arith, c.shared_slice_known-2-1.given c.args.at)
@@ -40,4 +40,4 @@ pub returns : goal.returns
 returns c =
     let a = c.args in
     let r = c.is_known in
-    sound a.sheet.now a.at (omega arith) r.result r.ensures (not-false r.result c.if-not-is_known.false-raw)
+    sound a.sheet.now a.at (omega arith) r.result r.ensures c.if-not-is_known.false

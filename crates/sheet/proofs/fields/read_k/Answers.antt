@@ -15,9 +15,9 @@ returns-in_default c =
 pub returns-then-not-k_fits : goal.returns-then-not-k_fits
 returns-then-not-k_fits c =
     let f = c.read_byte-byte in
-    failed _ 1 _ _ _ f.result f.ensures (k_fits c.args.n) bad_hall c.in-Value.is (sym c.k_fits.ensures ∙ not-true c.k_fits.result c.if-not-k_fits.true-raw)
+    failed _ 1 _ _ _ f.result f.ensures (k_fits c.args.n) bad_hall c.in-Value.is (sym c.k_fits.ensures ∙ c.if-not-k_fits.true)
 
 pub returns : goal.returns
 returns c =
     let f = c.read_byte-byte in
-    passed _ 1 _ _ _ f.result f.ensures (k_fits c.args.n) bad_hall c.in-Value.is (sym c.k_fits.ensures ∙ not-false c.k_fits.result c.if-not-k_fits.false-raw)
+    passed _ 1 _ _ _ f.result f.ensures (k_fits c.args.n) bad_hall c.in-Value.is (sym c.k_fits.ensures ∙ c.if-not-k_fits.false)

@@ -15,9 +15,9 @@ returns-in_default c =
 pub returns-then-not-n_fits : goal.returns-then-not-n_fits
 returns-then-not-n_fits c =
     let f = c.read_byte-byte in
-    failed _ 1 _ _ _ f.result f.ensures n_fits bad_hall c.in-Value.is (sym c.n_fits.ensures ∙ not-true c.n_fits.result c.if-not-n_fits.true-raw)
+    failed _ 1 _ _ _ f.result f.ensures n_fits bad_hall c.in-Value.is (sym c.n_fits.ensures ∙ c.if-not-n_fits.true)
 
 pub returns : goal.returns
 returns c =
     let f = c.read_byte-byte in
-    passed _ 1 _ _ _ f.result f.ensures n_fits bad_hall c.in-Value.is (sym c.n_fits.ensures ∙ not-false c.n_fits.result c.if-not-n_fits.false-raw)
+    passed _ 1 _ _ _ f.result f.ensures n_fits bad_hall c.in-Value.is (sym c.n_fits.ensures ∙ c.if-not-n_fits.false)

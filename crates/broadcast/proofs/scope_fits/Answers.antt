@@ -7,8 +7,7 @@ use lib.Dec.{leb}
 use borrow.Author.Tests.{le-leb, lt-leb, leb-true}
 use Rattle.combine.proofs.Tests.{both_ways}
 use Rattle.broadcast.specs.Broadcasts.{scope_fits}
-use Rattle.broadcast.proofs.scope_fits.Statement.{statement}
-use Rattle.broadcast.proofs.scope_fits.Tie as tie
+use Rattle.broadcast.proofs.scope_fits.Goals as goal
 
 over : (s k : ℕ) → 2 < s → leb s (min k 2) ≡ false
 over s k h = lt-leb s (min k 2) (omega arith)
@@ -19,13 +18,10 @@ under s k h =
     (λ e. let m = leb-true s k e in le-leb s (min k 2) (omega arith))
     (λ e. let m = leb-true s (min k 2) e in le-leb s k (omega arith))
 
-returns : tie.Need-returns
+pub returns-then-s-gt2 : goal.returns-then-s-gt2
 unfolding scope_fits
-returns c = rw (over _ _ c.if1.true)
+returns-then-s-gt2 c = rw (over _ _ c.if-s-gt2.true)
 
-returns-2 : tie.Need-returns-2
+pub returns : goal.returns
 unfolding scope_fits
-returns-2 c = under _ _ c.before.if1.false
-
-pub scope-fits-spec : {M : Type 1} → statement M
-scope-fits-spec = tie.close (tie.spec returns returns-2)
+returns c = under _ _ c.if-s-gt2.false
