@@ -44,8 +44,8 @@ loop-x-preserved c =
     ∙ open_here a.h a.table.now a.s a.room.now w.x w.invariant.0 c.loop-x-test.true in
     let swept : Sweep (below q (w.x + 1)) a.r a.room.now c.if-is_open.room c.if-is_open.any =
     elim c.if-is_open.branch [
-      | then-is_open b ↦ rw (b.room_is, b.any-is) (sweep_store q a.r a.room.now w.room w.any w.x w.invariant.3 (sym e ∙ b.if-is_open.true))
-      | else-is_open b ↦ rw (b.room_is, b.any-is) (sweep_skip q a.r a.room.now w.room w.any w.x w.invariant.3 (sym e ∙ b.if-is_open.false))
+      | then-is_open b ↦ rw (b.room-is, b.any-is) (sweep_store q a.r a.room.now w.room w.any w.x w.invariant.3 (sym e ∙ b.if-is_open.true))
+      | else-is_open b ↦ rw (b.room-is, b.any-is) (sweep_skip q a.r a.room.now w.room w.any w.x w.invariant.3 (sym e ∙ b.if-is_open.false))
     ] in
     (omega arith, omega arith, swept.long, swept)
 

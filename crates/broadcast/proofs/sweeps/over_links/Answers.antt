@@ -82,8 +82,8 @@ loop-x-preserved c =
     ∙ link_here a.h a.table.now p a.j near.result old w.x y in
     let swept : Sweep (below q (w.x + 1)) a.r old c.if-is_reached.room c.if-is_reached.any =
     elim c.if-is_reached.branch [
-      | then-is_reached b ↦ rw (b.room_is, b.any-is) (sweep_store q a.r old w.room w.any w.x w.invariant.3 (sym e ∙ b.if-is_reached.true))
-      | else-is_reached b ↦ rw (b.room_is, b.any-is) (sweep_skip q a.r old w.room w.any w.x w.invariant.3 (sym e ∙ b.if-is_reached.false))
+      | then-is_reached b ↦ rw (b.room-is, b.any-is) (sweep_store q a.r old w.room w.any w.x w.invariant.3 (sym e ∙ b.if-is_reached.true))
+      | else-is_reached b ↦ rw (b.room-is, b.any-is) (sweep_skip q a.r old w.room w.any w.x w.invariant.3 (sym e ∙ b.if-is_reached.false))
     ] in
     (omega arith, swept.long, c.next_place-p.ensures ∙ rw w.invariant.2 (place_next a.cell w.x pos), swept)
 

@@ -1,0 +1,20 @@
+-- `report::puts::put_uids` meets its contract: after i turns the text of the first i uids stands in the room.
+use mathlib.Core.Path.{◌≡◌, refl, sym, ◌∙◌}
+use mathlib.Core.List.{[], ◌∷◌, ◌++◌}
+use Prim.Native.Nat.{◌+◌, ◌-◌, ◌≤◌}
+use native.Mathlib.Omega.{arith}
+use lib.ListN.{length, take, get_or, length-set}
+use lib.Seq.{append_snoc}
+use Rattle.report.specs.Texts.{decimal, space, uids_text}
+use Rattle.words.specs.Rooms.{put}
+use Rattle.words.proofs.Rooms.{put_none}
+use Rattle.report.proofs.Rooms.{put_next, byte_next}
+use Rattle.report.proofs.Texts.{uids_next, uids_within}
+use Rattle.report.proofs.puts.put_uids.Given as goal
+
+abbrev pub invariant-loop-i : goal.invariant-loop-i
+invariant-loop-i l = (l.i ≤ l.count) × (length l.room ≡ length l.initial.room)
+    × ((l.next ≡ l.at + length (uids_text (take l.i l.uids))) × (l.room ≡ put l.initial.room l.at (uids_text (take l.i l.uids))))
+
+abbrev pub decreases-loop-i : goal.decreases-loop-i
+decreases-loop-i l = l.count - l.i
