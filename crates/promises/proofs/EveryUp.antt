@@ -322,7 +322,7 @@ module _ (h : Hall) (table : List ℕ) (source : ℕ) (p : Packet) (s : Sound h 
         is_delivered = gone.delivers_there (a.0, a.1);
         at_dst = (a.0, gone.uids_so ∙ a.1);
         links_few = omega (arith, links_left, few);
-        of_level_lem = λ i lo hi.
+        level_few = λ i lo hi.
             rw (of_level_so i lo, above_lowest h.n h.b h.k source p.dst holds)
             (above_of_level h.n h.b (common h source p) source p.dst (lowest_holds h.n h.k source p.dst holds) i hi);
         none_higher = λ i l. cases (leb h.b (common h source p))

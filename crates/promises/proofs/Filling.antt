@@ -1,32 +1,29 @@
 -- In a full hall a table counts as it stands; a link that counts has two fitted servers, so a packet that a fitted server sends on comes to a fitted
 -- one, and one that is not fitted sends nothing on.
-use mathlib.Core.Path.{◌≡◌, refl, sym, ◌∙◌, ap}
-use mathlib.Core.Bool.{Bool, true, false}
+use mathlib.Core.Path.{◌≡◌, refl, ◌∙◌, ap}
+use mathlib.Core.Bool.{true, false}
 use mathlib.Core.List.{List, ◌++◌}
-use Prim.Native.Nat.{ℕ, zero, suc, ◌+◌, ◌≤◌, ◌<◌}
+use Prim.Native.Nat.{ℕ, zero, suc, ◌+◌, ◌<◌}
 use native.Mathlib.Omega.{arith}
 use lib.ListN.{length, get_or, take, drop, take-append-drop}
-use Rattle.combine.specs.Tests.{pick, both}
 use Rattle.combine.proofs.Tests.{never}
 use Rattle.hall.specs.declared.Hall.{Hall}
 use Rattle.hall.specs.Halls.{valid}
 use Rattle.hall.proofs.Growth.{valid_known}
-use Rattle.ports.specs.Codes.{code_of, cell_length, table_length}
-use Rattle.ports.specs.Links.{joined}
+use Rattle.ports.specs.Codes.{cell_length, table_length}
 use Rattle.plan.specs.Answers.{fitted}
-use Rattle.counted.specs.Counted.{port_fitted, counted}
+use Rattle.counted.specs.Counted.{counted}
 use Rattle.counted.proofs.Counted.{counted_code, counted_full}
 use Rattle.counted.proofs.Links.{joined_hall, joined_fitted}
 use Rattle.local.specs.Local.{first_of}
 use Rattle.ends.specs.Tables.{cell_part, lent_counted}
 use Rattle.forward.specs.declared.Packet.{Packet}
 use Rattle.forward.specs.Packets.{forwarded}
-use Rattle.forward.specs.Journeys.{Trip, step_at, trip}
+use Rattle.forward.specs.Journeys.{Trip, step_at}
 use Rattle.forward.specs.Travels.{Travels, last_step, one_step}
 use Rattle.forward.proofs.Links.{n_pos}
 use Rattle.forward.proofs.Trips.{trip_travels}
 use Rattle.broadcast.proofs.Fitted.{rounds_unfitted, rounds_local, rounds_front}
-use Rattle.promises.specs.Journeys.{Sound}
 use Rattle.promises.specs.Filling.{CodesCount, FullUnchanged, UsableFitted, FittedOnly, UnfittedStays, UnfittedAlone, LocalRounds, FrontRounds}
 use Rattle.promises.proofs.AnyCodes.{Stands, departs, stands_on, hops_usable, sound_counted}
 
