@@ -1,37 +1,56 @@
 #!/usr/bin/env bash
-# The wrong answers of crates/*/must-fail, function by function, once `rt ci` has tried the edits. An edit may hold one wrong answer in each of
-# several functions, a line `refused: FUNCTION` before each. The prover's log of the edit has to find fault with the proofs of exactly those functions,
-# for a fact that no longer holds; that a caller then rests on a refused function is no fault of its own. An edit of a constant, a definition or a
-# theorem names no function but the place of its refusal, `refused at: FILE LAW`, or the file alone where it is the proof of a function: the log's first error
-# has to be there. The last line adds up the wrong answers.
+# The wrong answers of crates/*/must-fail, function by function. An edit may hold one wrong answer in each of several functions, a line
+# `refused: FUNCTION` before each. `rt ci` tells that the prover refuses an edit; this tells where and why. Each edit is made in a copy of its crate,
+# which is checked from what the checkout's own check kept. The check has to find fault with the proofs of exactly those functions, for a fact that no
+# longer holds; that a caller then rests on a refused function is no fault of its own, and neither is a goal at which the search gave up. An edit of a
+# constant, a definition or a theorem names no function but the place of its refusal, `refused at: FILE LAW`, or the file alone where it is the proof of a
+# function: the check's first error has to be there. The last line adds up the wrong answers.
 #
-#   tests/refused.sh            judges what `rt ci` or `rt must-fail` left in target/must-fail
-#   tests/refused.sh CRATE..    tries the edits of these crates alone, and judges them
+#   tests/refused.sh            tries every edit
+#   tests/refused.sh CRATE..    tries the edits of these crates
+#
+# What a check said stays in target/must-fail/CRATE/LABEL.log. RT_JOBS is the number of checks at a time, or else that of the processors.
 set -euo pipefail
 cd "$(dirname "$0")/.."
-
+jobs=${RT_JOBS:-$(nproc)}
 logs=target/must-fail
-edits=(crates/*/must-fail/*.edit)
-if [ $# -gt 0 ]; then
-    # `rt must-fail` tries the edits of the crates below too, so it is asked in a copy that has no others.
-    copy=$(mktemp -d)
-    trap 'rm -rf "$copy"' EXIT
-    cp -R crates crates.txt "$copy"
-    rm -rf "$copy"/crates/*/must-fail
-    mkdir -p "$copy/target"
-    for part in bin log obj rlib stamp; do if [ -d "target/$part" ]; then cp -R "target/$part" "$copy/target/$part"; fi; done
-    edits=()
-    for crate in "$@"; do
-        [ -d "crates/$crate/must-fail" ] || { echo "crates/$crate/must-fail: there is no such folder"; exit 2; }
-        cp -R "crates/$crate/must-fail" "$copy/crates/$crate/must-fail"
-        edits+=("crates/$crate"/must-fail/*.edit)
-    done
-    (cd "$copy" && rt must-fail "$@") | grep '^rt: must-fail' || true
-    logs=$copy/target/must-fail
-fi
+shapes=$(grep -v '^#' tests/shapes.txt)
 
-# The folder of each named function's proof, or of all the functions that it calls in a circle.
-proofs_of() { # CRATE, FUNCTION.. on standard input
+# Writes each `new:` text of an edit in the place of the `old:` text before it, which stands once in its file.
+apply() { # EDIT CRATE'S-FOLDER
+    local line path old new text
+    while IFS= read -r line || [ -n "$line" ]; do
+        case $line in
+        'file: '*) path=$2/${line#file: } ;;
+        'old: '*) old=${line#old: } ;;
+        'new:'*)
+            new=${line#new:}
+            text=$(cat "$path" && printf .)
+            [[ $text == *"$old"* && ${text#*"$old"} != *"$old"* ]] || { echo "$1: '$old' does not stand once in $path" && return 1; }
+            printf %s "${text%%"$old"*}${new# }" >"$path"
+            text=${text#*"$old"}
+            printf %s "${text%.}" >>"$path"
+            ;;
+        esac
+    done <"$1"
+}
+
+# Checks a crate with an edit, in a copy of the repository that has nothing else to do meanwhile.
+try() { # COPY EDIT
+    local crate=${2#crates/} part
+    crate=${crate%%/*}
+    local there=$1/crates/$crate log=$logs/$crate/$(basename "$2" .edit).log
+    mkdir -p "$there/out" "$(dirname "$log")"
+    for part in src specs proofs out/incremental; do
+        rm -rf "${there:?}/$part"
+        if [ -d "crates/$crate/$part" ]; then cp -R "crates/$crate/$part" "$there/$part"; fi
+    done
+    apply "$2" "$there" >"$log" || return 0
+    (cd "$there" && rt check --jobs 1) >>"$log" 2>&1 </dev/null || true
+}
+
+# The folder of a function's proof, or of all the functions that it calls in a circle.
+proofs_of() { # CRATE, functions on standard input
     local name path circle
     while IFS= read -r name; do
         path=${name#"$1"::}
@@ -42,34 +61,70 @@ proofs_of() { # CRATE, FUNCTION.. on standard input
 }
 
 # The log's errors but for those that follow from another, a line each: the file and the law, which is left empty where the file does not parse.
-errors_of() { # CRATE LABEL LOG
-    sed -n -E "/was not admitted/d; s|^.*/must-fail/$1/$2/([^:]*):[0-9]+:[0-9]+: error: (\`([^\`]*)\`: )?.*|\1 \3|p" "$3"
+errors_of() { # LOG
+    sed -n -E '/(was|were) not (admitted|checked)/d; s/^(\.\/)?((src|specs|proofs)\/[^:]*):[0-9]+:[0-9]+: error: (`([^`]*)`: )?.*/\2 \5/p' "$1"
+}
+
+# The functions that have a goal with no answer which the search shows false or finds no proof of, and did not give up.
+left_open() { # LOG
+    awk '/it is not proved that/ && !/gave up/ { open = 1 } /^fn / { if (open) print substr($2, 1, length($2) - 1); open = 0 }' "$1"
 }
 
 # The folders of the proofs that the log finds fault with, and any other file that it does.
-refused_in() { # CRATE LABEL LOG
+refused_in() { # CRATE LOG
     {
-        errors_of "$@" | cut -d ' ' -f 1 | sed -E 's|^proofs/(.*)/Proof\.antt$|\1|'
-        sed -n -E "s/^fn $1::([a-z_0-9:]+): no proof.*\`search\` does not close.*/\1/p" "$3" | sed 's|::|/|g'
+        errors_of "$2" | cut -d ' ' -f 1 | sed -E 's#^proofs/(.*)/(Answers|Invariants|Proof)\.antt$#\1#'
+        left_open "$2" | proofs_of "$1"
     } | sort -u
 }
 
-shapes=$(grep -v '^#' tests/shapes.txt)
-passed=0
 failed=0
+passed=0
 fail() {
     echo "FAILED: $*"
     failed=$((failed + 1))
 }
+
+crates=("$@")
+[ $# -gt 0 ] || mapfile -t crates < <(sed -n 's/^\([a-z0-9_]*\)[^:#]*:.*/\1/p' crates.txt)
+edits=()
+for crate in "${crates[@]}"; do
+    if [ -d "crates/$crate/must-fail" ]; then
+        edits+=("crates/$crate"/must-fail/*.edit)
+    elif [ $# -gt 0 ]; then
+        echo "crates/$crate/must-fail: there is no such folder" && exit 2
+    fi
+done
+
+# What the checks of the edits begin with.
+for crate in "${crates[@]}"; do
+    [ -d "crates/$crate/must-fail" ] || continue
+    (cd "crates/$crate" && rt check) >"${TMPDIR:-/tmp}/refused-$$.log" 2>&1 || { cat "${TMPDIR:-/tmp}/refused-$$.log" && echo "$crate is not proved as it stands" && exit 1; }
+done
+rm -f "${TMPDIR:-/tmp}/refused-$$.log"
+
+room=$(mktemp -d)
+trap 'rm -rf "$room"' EXIT
+rm -rf "$logs"
+lane() { # NUMBER
+    mkdir "$room/$1"
+    cp crates.txt "$room/$1"
+    tar -c --exclude=out --exclude=must-fail crates | tar -x -C "$room/$1"
+    local at
+    for ((at = $1; at < ${#edits[@]}; at += jobs)); do try "$room/$1" "${edits[at]}"; done
+}
+for ((number = 0; number < jobs; number++)); do lane "$number" & done
+wait
+
 for edit in "${edits[@]}"; do
     crate=${edit#crates/}
     crate=${crate%%/*}
-    label=$(basename "$edit" .edit)
-    log=$logs/$crate/$label/.log
+    log=$logs/$crate/$(basename "$edit" .edit).log
     [ -f "$log" ] || { fail "$edit was not tried: $log is missing"; continue; }
+    grep -q '^logic=not-proved' "$log" || { fail "$edit is not refused by the prover: $log ends in '$(tail -n 1 "$log")'"; continue; }
     shape=$(grep -F -o -m 1 "$shapes" "$log" || true)
     [ -z "$shape" ] || { fail "$edit is refused for the shape of a proof or a name, not for a fact: $log says '$shape'"; continue; }
-    errors=$(errors_of "$crate" "$label" "$log")
+    errors=$(errors_of "$log")
     ! grep -q ' $' <<<"$errors" || { fail "$edit makes a file that does not parse"; continue; }
     named=$(sed -n 's/^refused: //p' "$edit")
     if [ -z "$named" ]; then
@@ -81,7 +136,7 @@ for edit in "${edits[@]}"; do
         continue
     fi
     proofs=$(proofs_of "$crate" <<<"$named")
-    refused=$(refused_in "$crate" "$label" "$log")
+    refused=$(refused_in "$crate" "$log")
     [ "$proofs" = "$refused" ] || { fail "$edit names" $proofs "and the prover refuses" ${refused:-none}; continue; }
     passed=$((passed + $(wc -l <<<"$named")))
 done

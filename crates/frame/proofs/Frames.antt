@@ -183,3 +183,9 @@ module _ (frame : List ℕ) where
 
   pub accepted_payload : frame_refusal frame ≡ 0 → payload_of frame ≡ behind_header frame
   accepted_payload e = rw e
+
+-- what version, DHL and flags bring, ask by ask
+pub ruleset header_asked = (header_version, header_DHL, header_flags, header_disagrees, header_agrees)
+
+-- a frame's refusal, by what is asked first, then by its header, then by all of it
+pub ruleset frame_asked = (frame_short, frame_header, frame_whole, header_words_lem)

@@ -18,6 +18,7 @@ use hall::refusals::{
 };
 
 // The refusal that version, DHL and flags bring, 0 where there is none.
+#[tactic(auto, using(crate::proofs::Frames::header_asked, crate::specs::Worked::rows_counted))]
 pub(crate) fn header_refusal(version: u32, words: usize, flags: usize) -> u32
     ensures { result ≡ in_order (asks_header version words flags) }
 {
@@ -89,6 +90,7 @@ pub(crate) fn fields_refusal(frame: &[u8]) -> u32
 }
 
 // A frame's refusal, 0 where it is accepted.
+#[tactic(auto, using(crate::proofs::Frames::frame_asked))]
 pub(crate) fn frame_refusal(frame: &[u8]) -> u32
     ensures { result ≡ frame_refusal frame.now }
 {
@@ -107,6 +109,7 @@ pub(crate) fn frame_refusal(frame: &[u8]) -> u32
 }
 
 // The place that a refusal tells: the first byte of the field that it is about, 0 where it is about none.
+#[tactic(auto, using(crate::specs::Worked::places_told, crate::proofs::Places::no_place))]
 pub(crate) fn place_of(number: u32) -> u32
     ensures { result ≡ place_of number }
 {

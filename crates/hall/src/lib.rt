@@ -37,6 +37,7 @@ pub struct Sizes {
 }
 
 // Whether n is in its range.
+#[tactic(auto, unfolding(crate::specs::Halls::n_fits))]
 pub fn n_fits(n: u32) -> bool
     ensures { result ≡ n_fits n }
 {
@@ -54,6 +55,7 @@ pub fn k_fits(n: u32, k: u32) -> bool
 }
 
 // Whether b is in its range, in a hall of top level k.
+#[tactic(auto, unfolding(crate::specs::Halls::b_fits))]
 pub fn b_fits(k: u32, b: u32) -> bool
     ensures { result ≡ b_fits k b }
 {

@@ -13,7 +13,7 @@ use Rattle.hall.specs.Refusals.{refusal, bad_hall, hall_full}
 use Rattle.hall.specs.Cells.{t}
 use Rattle.hall.specs.Halls.{most_n, top, largest, Sized, capacity, n_fits, k_fits, count_fits, valid, is_full, servers}
 use Rattle.hall.specs.Answers.{size_of, racks_of}
-use Rattle.hall.proofs.Growth.{Valid, valid_known, size_at_lem}
+use Rattle.hall.proofs.Growth.{Valid, valid_known, size_at_lem, no_servers, some_servers}
 use Rattle.hall.proofs.Racks.{racks_known, count_most, racks_servers}
 use Rattle.plan.specs.Plan.{rank, prefix_of}
 use Rattle.plan.specs.Answers.{fitted, first_fitted, is_fitted, asks_plan}
@@ -140,3 +140,6 @@ module _ (h : Hall) where
         let l = ltb-false u (servers h) q in
         let c = first_servers h (omega (arith, k.n_low)) k.count_fits (sym f ∙ z) in
         rw (v, q) (le-ltb u most (omega arith)))
+
+-- the planner's refusals, ask by ask, from the servers that a hall has
+pub ruleset plan_asked = (no_servers, some_servers, refused_hall, refused_low, refused_full, refused_not)

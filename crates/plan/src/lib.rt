@@ -69,6 +69,7 @@ fn prefix_up_to(n: u32, m: u32, c: u32) -> [u32; PLACES]
 }
 
 // Why the planner is refused, 0 where it is not.
+#[tactic(auto, using(crate::proofs::Asks::plan_asked))]
 fn refused(h: Hall) -> u32
     ensures { result ≡ refusal (asks_plan h) }
 {

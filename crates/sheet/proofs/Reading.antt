@@ -176,3 +176,6 @@ field_read width sound number s at v next e =
 pub field_sound : (width : ℕ) (sound : ℕ → Bool) (number : ℕ) (s : List ℕ) (at : ℕ) → at + width ≤ length s → sound (value s at width) ≡ true
     → read (field width sound number done) s at ≡ Value (value s at width) (at + width)
 field_sound width sound number s at h t = read_sound s width sound number done at h t ∙ read_done (value s at width) s (at + width)
+
+-- a field, by whether it is whole and sound
+pub ruleset field_by_cases = (missed, failed, passed)

@@ -49,6 +49,7 @@ fn codes_place(sheet: &[u8]) -> usize
 }
 
 // As many bytes as the second count says, behind it; none where they are not there.
+#[tactic(auto, using(crate::proofs::Parts::count_read, crate::proofs::Parts::codes_short))]
 pub fn codes_part(sheet: &[u8]) -> &[u8]
     ensures { result.now ≡ codes_part sheet.now }
 {

@@ -8,6 +8,7 @@ ghost use Rattle.words.specs.Words.{big_endian, words_bytes, word_at};
 ghost use Rattle.words.specs.Rooms.{room_of};
 
 // The big-endian number in four bytes, from the place of the first; 0 where they are not there.
+#[tactic(auto, using(crate::proofs::Words::word_cut))]
 pub fn word_at(bytes: &[u8], at: usize) -> u32
     ensures { result ≡ word_at bytes.now at }
 {

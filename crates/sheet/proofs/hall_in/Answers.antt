@@ -4,26 +4,7 @@ use native.Mathlib.Omega.{arith}
 use Rattle.words.proofs.Words.{word_there}
 use Rattle.sheet.proofs.Places.{count_low}
 use Rattle.sheet.proofs.Heads.{hall_part, hall_full, part_there}
-use borrow.Author.Rules.{rules}
 use Rattle.sheet.proofs.hall_in.Goals as goal
-
-pub bounds-sheet-4 : goal.bounds-sheet-4
-bounds-sheet-4 c = omega (arith, c.requires.there, count_low c.args.sheet.now)
-
-pub overflow_cast-n : goal.overflow_cast-n
-overflow_cast-n c = omega (arith, c.shared_slice_known-2-1.given 4)
-
-pub bounds-sheet-5 : goal.bounds-sheet-5
-bounds-sheet-5 c = omega (arith, c.requires.there, count_low c.args.sheet.now)
-
-pub overflow_cast-k : goal.overflow_cast-k
-overflow_cast-k c = omega (arith, c.shared_slice_known-3-1.given 5)
-
-pub bounds-sheet-6 : goal.bounds-sheet-6
-bounds-sheet-6 c = omega (arith, c.requires.there, count_low c.args.sheet.now)
-
-pub overflow_cast-b : goal.overflow_cast-b
-overflow_cast-b c = omega (arith, c.shared_slice_known-4-1.given 6)
 
 pub returns-then-word_at-eq-PART_SECTION : goal.returns-then-word_at-eq-PART_SECTION
 returns-then-word_at-eq-PART_SECTION c =

