@@ -1,4 +1,4 @@
-//! Tells the linker where `rt staticlib` writes the proved calls; only the program links them, not the library.
+//! Tells the linker where `bin/staticlib` writes the proved calls; only the program links them, not the library.
 
 use std::env;
 use std::path::PathBuf;

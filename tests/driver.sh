@@ -10,7 +10,7 @@ fail() { echo "$*"; exit 1; }
 library=target/staticlib/libdriver.a
 header=include/tbexlum.h
 manual=docs/DRIVER.md
-[ -f "$library" ] || fail "$library is missing: 'rt staticlib driver' builds it"
+[ -f "$library" ] || fail "$library is missing: 'bin/staticlib driver' builds it"
 for tool in gcc g++ pkg-config; do
     command -v "$tool" >/dev/null 2>&1 || fail "$tool is not installed"
 done
@@ -79,15 +79,15 @@ pass
 tree="$folder/tree"
 mkdir -p "$tree/crates" "$tree/target" "$folder/tools" "$folder/none"
 cp -R bin include examples docs crates.txt "$tree"
-for crate in driver $(sed -n 's/^driver://p' crates.txt); do
+for crate in driver_c driver $(sed -n 's/^driver://p' crates.txt); do
     mkdir "$tree/crates/$crate"
     cp -R "crates/$crate/src" "$tree/crates/$crate"
 done
-for tool in sh cat dirname find mkdir mv rm sed; do ln -s "$(command -v $tool)" "$folder/none/$tool"; done
+for tool in sh cat cp dirname find mkdir mv rm sed; do ln -s "$(command -v $tool)" "$folder/none/$tool"; done
 cat >"$folder/tools/rt" <<'END'
 #!/bin/sh
-[ "$*" = "staticlib driver" ] && [ -f crates.txt ] || exit 1
-mkdir -p target/staticlib && echo "$BUILT" >target/staticlib/libdriver.a
+[ "$*" = lib ] && [ "${PWD##*/}" = driver_c ] && [ -f ../../crates.txt ] || exit 1
+mkdir -p out && echo "$BUILT" >out/libdriver_c.a
 END
 chmod +x "$folder/tools/rt"
 # Installs from the copy, with a stand-in that would build the library anew, and compares what is installed.

@@ -356,19 +356,22 @@ stopped "stops in a refusal" 'REFUSED 5' 'exit 0'
 rm -r "$copy/target"
 
 # The first use, in a copy without the program: a stand-in for the prover puts the program there, or there is no prover.
-mkdir -p "$folder/tools"
-for tool in sh awk cat cp date dirname find head mkdir od sed tail touch; do ln -s "$(command -v "$tool")" "$folder/tools/$tool"; done
+mkdir -p "$folder/tools" "$copy/crates/trace"
+for tool in sh awk cat cp date dirname find head mkdir mv od sed tail touch; do ln -s "$(command -v "$tool")" "$folder/tools/$tool"; done
 sheet=$PWD/examples/small.sheet
 first() { PATH="$folder/tools" "$copy/bin/trace" "$@"; }
 yet="trace: the program is not built yet"
 lacking="and the Rattle toolchain (rt) is not installed"$'\n'
 expect "the first use without the toolchain" 2 "" "$yet, $lacking" first "$sheet"
-# The stand-in reads what it is given, so that a sheet on standard input would be lost, and then runs the given lines.
+# The stand-in reads what it is given, so that a sheet on standard input would be lost, prints as `rt run` does, and then runs the given lines.
 prover() { # LINES
-    printf '#!/bin/sh\n[ "$*" = "check trace" ] || exit 1\ncat >/dev/null\necho "trace proved"\n%s\n' "$1" >"$folder/tools/rt"
+    {
+        printf '#!/bin/sh\n[ "$*" = run ] && [ "${PWD##*/}" = trace ] || exit 1\n'
+        printf 'cat >/dev/null\necho "trace proved" >&2\necho "REFUSED 10 0"\n%s\n' "$1"
+    } >"$folder/tools/rt"
     chmod +x "$folder/tools/rt"
 }
-put="mkdir -p target/bin && cp '$PWD/target/bin/trace' target/bin/trace"
+put="mkdir -p out && cp '$PWD/target/bin/trace' out/trace"
 builds="it is now proved and built, which may take about five minutes"$'\n'"trace proved"$'\n'
 cannot="trace: the program could not be built"$'\n'
 prover "$put"
@@ -401,7 +404,7 @@ prover ""
 expect "a program that the prover finds unchanged" 0 "$small" "$older: $builds" first "$sheet"
 expect "a program that the prover found unchanged is not built twice" 0 "$small" "" first "$sheet"
 change "$main"
-prover "$put; touch $main"
+prover "$put; touch ../../$main"
 expect "a source that changes while the program is built" 0 "$small" "$older: $builds" first "$sheet"
 expect "a source that changed while the program was built is seen by the next use" 0 "$small" "$older: $builds" first "$sheet"
 prover "exit 1"
@@ -411,6 +414,7 @@ expect "an older program without the toolchain" 2 "" "$older, $lacking" first "$
 rm -r "$copy/target"
 prover "exit 1"
 expect "a program that cannot be built" 2 "" "$yet: $builds$cannot" first "$sheet"
+rm -r "$copy/crates/trace/out"
 prover "exit 0"
 expect "a prover that leaves no program" 2 "" "$yet: $builds$cannot" first "$sheet"
 

@@ -14,8 +14,7 @@ ghost use Rattle.calls_hall.specs.Outcomes.{of_sizes, of_uid, of_tuple, of_cell,
 use hall::Hall;
 use rooms::{tell, tell_bytes};
 
-#[unsafe(no_mangle)]
-pub extern "C" fn calls_sizes(n: u32, k: u32, b: u32, count: u32, room: &mut [u32]) -> u32
+pub fn calls_sizes(n: u32, k: u32, b: u32, count: u32, room: &mut [u32]) -> u32
     ensures number { result ≡ told (of_sizes (sizes_of (hall_of n k b count))) room.old }
     ensures room { room.new ≡ written (of_sizes (sizes_of (hall_of n k b count))) room.old }
 {
@@ -24,15 +23,13 @@ pub extern "C" fn calls_sizes(n: u32, k: u32, b: u32, count: u32, room: &mut [u3
     tell(a.refusal, &words, room)
 }
 
-#[unsafe(no_mangle)]
-pub extern "C" fn calls_size_of(n: u32, k: u32, b: u32, count: u32, level: u32) -> u32
+pub fn calls_size_of(n: u32, k: u32, b: u32, count: u32, level: u32) -> u32
     ensures { result ≡ size_of (hall_of n k b count) level }
 {
     hall::size_of(Hall { n, k, b, count }, level)
 }
 
-#[unsafe(no_mangle)]
-pub extern "C" fn calls_uid(
+pub fn calls_uid(
     n: u32,
     k: u32,
     b: u32,
@@ -51,8 +48,7 @@ pub extern "C" fn calls_uid(
     tell(a.refusal, &words, room)
 }
 
-#[unsafe(no_mangle)]
-pub extern "C" fn calls_tuple(n: u32, k: u32, b: u32, count: u32, uid: u32, room: &mut [u32]) -> u32
+pub fn calls_tuple(n: u32, k: u32, b: u32, count: u32, uid: u32, room: &mut [u32]) -> u32
     ensures number { result ≡ told (of_tuple (tuple_of (hall_of n k b count) uid)) room.old }
     ensures room { room.new ≡ written (of_tuple (tuple_of (hall_of n k b count) uid)) room.old }
 {
@@ -61,16 +57,7 @@ pub extern "C" fn calls_tuple(n: u32, k: u32, b: u32, count: u32, uid: u32, room
     tell(a.refusal, &words, room)
 }
 
-#[unsafe(no_mangle)]
-pub extern "C" fn calls_cell(
-    n: u32,
-    k: u32,
-    b: u32,
-    count: u32,
-    uid: u32,
-    level: u32,
-    room: &mut [u32],
-) -> u32
+pub fn calls_cell(n: u32, k: u32, b: u32, count: u32, uid: u32, level: u32, room: &mut [u32]) -> u32
     ensures number { result ≡ told (of_cell (cell_around (hall_of n k b count) uid level)) room.old }
     ensures room { room.new ≡ written (of_cell (cell_around (hall_of n k b count) uid level)) room.old }
 {
@@ -79,8 +66,7 @@ pub extern "C" fn calls_cell(
     tell(a.refusal, &words, room)
 }
 
-#[unsafe(no_mangle)]
-pub extern "C" fn calls_neighbour(
+pub fn calls_neighbour(
     n: u32,
     k: u32,
     b: u32,
@@ -97,8 +83,7 @@ pub extern "C" fn calls_neighbour(
     tell(a.refusal, &words, room)
 }
 
-#[unsafe(no_mangle)]
-pub extern "C" fn calls_link(
+pub fn calls_link(
     n: u32,
     k: u32,
     b: u32,
@@ -117,15 +102,13 @@ pub extern "C" fn calls_link(
     tell(a.refusal, &words, room)
 }
 
-#[unsafe(no_mangle)]
-pub extern "C" fn calls_check(n: u32, k: u32, b: u32, count: u32, table: &[u8]) -> u32
+pub fn calls_check(n: u32, k: u32, b: u32, count: u32, table: &[u8]) -> u32
     ensures { result ≡ (check_of (hall_of n k b count) table.now).refusal }
 {
     ports::check_table(Hall { n, k, b, count }, table).refusal
 }
 
-#[unsafe(no_mangle)]
-pub extern "C" fn calls_part(
+pub fn calls_part(
     n: u32,
     k: u32,
     b: u32,
@@ -142,16 +125,7 @@ pub extern "C" fn calls_part(
     tell_bytes(number, part, room)
 }
 
-#[unsafe(no_mangle)]
-pub extern "C" fn calls_route(
-    n: u32,
-    k: u32,
-    b: u32,
-    count: u32,
-    x: u32,
-    y: u32,
-    room: &mut [u32],
-) -> u32
+pub fn calls_route(n: u32, k: u32, b: u32, count: u32, x: u32, y: u32, room: &mut [u32]) -> u32
     ensures number { result ≡ told (of_route (route_between (hall_of n k b count) x y)) room.old }
     ensures room { room.new ≡ written (of_route (route_between (hall_of n k b count) x y)) room.old }
 {

@@ -26,13 +26,7 @@ fn tell_end(line: Written, end: &mut usize) -> u32
     0
 }
 
-#[unsafe(no_mangle)]
-pub extern "C" fn calls_opening_line(
-    sheet: &[u8],
-    at: usize,
-    room: &mut [u8],
-    end: &mut usize,
-) -> u32
+pub fn calls_opening_line(sheet: &[u8], at: usize, room: &mut [u8], end: &mut usize) -> u32
     ensures number { result ≡ (written_of room.old at (opening_text (sheet_of sheet.now))).refusal }
     ensures room { room.new ≡ room_of room.old at (opening_text (sheet_of sheet.now)) }
     ensures end { end.new ≡ end_of (written_of room.old at (opening_text (sheet_of sheet.now))) end.old }
@@ -41,14 +35,7 @@ pub extern "C" fn calls_opening_line(
     tell_end(lines::opening_line(room, at, read), end)
 }
 
-#[unsafe(no_mangle)]
-pub extern "C" fn calls_journey_line(
-    sheet: &[u8],
-    i: u32,
-    at: usize,
-    room: &mut [u8],
-    end: &mut usize,
-) -> u32
+pub fn calls_journey_line(sheet: &[u8], i: u32, at: usize, room: &mut [u8], end: &mut usize) -> u32
     ensures number { result ≡ (unless_written (journey_refusal sheet.now (sheet_of sheet.now) i) room.old at (journey_text sheet.now (sheet_of sheet.now) i)).refusal }
     ensures room { room.new ≡ unless_room (journey_refusal sheet.now (sheet_of sheet.now) i) room.old at (journey_text sheet.now (sheet_of sheet.now) i) }
     ensures end { end.new ≡ end_of (unless_written (journey_refusal sheet.now (sheet_of sheet.now) i) room.old at (journey_text sheet.now (sheet_of sheet.now) i)) end.old }
@@ -57,8 +44,7 @@ pub extern "C" fn calls_journey_line(
     tell_end(lines::journey_line(room, at, sheet, read, i), end)
 }
 
-#[unsafe(no_mangle)]
-pub extern "C" fn calls_end_line(packets: u32, at: usize, room: &mut [u8], end: &mut usize) -> u32
+pub fn calls_end_line(packets: u32, at: usize, room: &mut [u8], end: &mut usize) -> u32
     ensures number { result ≡ (written_of room.old at (end_line packets)).refusal }
     ensures room { room.new ≡ room_of room.old at (end_line packets) }
     ensures end { end.new ≡ end_of (written_of room.old at (end_line packets)) end.old }
@@ -66,8 +52,7 @@ pub extern "C" fn calls_end_line(packets: u32, at: usize, room: &mut [u8], end: 
     tell_end(report::end_line(room, at, packets), end)
 }
 
-#[unsafe(no_mangle)]
-pub extern "C" fn calls_hall_line(
+pub fn calls_hall_line(
     n: u32,
     k: u32,
     b: u32,
@@ -83,8 +68,7 @@ pub extern "C" fn calls_hall_line(
     tell_end(report::hall_line(room, at, Hall { n, k, b, count }), end)
 }
 
-#[unsafe(no_mangle)]
-pub extern "C" fn calls_refused_line(
+pub fn calls_refused_line(
     number: u32,
     place: u32,
     at: usize,
@@ -98,8 +82,7 @@ pub extern "C" fn calls_refused_line(
     tell_end(report::refused_line(room, at, number, place), end)
 }
 
-#[unsafe(no_mangle)]
-pub extern "C" fn calls_packet_line(
+pub fn calls_packet_line(
     source: u32,
     dst: u32,
     ending: u32,
@@ -124,8 +107,7 @@ pub extern "C" fn calls_packet_line(
     tell_end(report::packet_line(room, at, told, uids), end)
 }
 
-#[unsafe(no_mangle)]
-pub extern "C" fn calls_trace_piece(
+pub fn calls_trace_piece(
     sheet: &[u8],
     from: u32,
     room: &mut [u8],

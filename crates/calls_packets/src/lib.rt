@@ -16,8 +16,7 @@ use forward::Packet;
 use hall::Hall;
 use rooms::{tell, tell_bytes};
 
-#[unsafe(no_mangle)]
-pub extern "C" fn calls_distances(
+pub fn calls_distances(
     n: u32,
     k: u32,
     b: u32,
@@ -34,8 +33,7 @@ pub extern "C" fn calls_distances(
     tell_bytes(a.refusal, &bytes, room)
 }
 
-#[unsafe(no_mangle)]
-pub extern "C" fn calls_distances_origin(
+pub fn calls_distances_origin(
     n: u32,
     k: u32,
     b: u32,
@@ -52,8 +50,7 @@ pub extern "C" fn calls_distances_origin(
     tell(a.refusal, &words, room)
 }
 
-#[unsafe(no_mangle)]
-pub extern "C" fn calls_next_hop(
+pub fn calls_next_hop(
     n: u32,
     k: u32,
     b: u32,
@@ -71,8 +68,7 @@ pub extern "C" fn calls_next_hop(
     tell(a.refusal, &words, room)
 }
 
-#[unsafe(no_mangle)]
-pub extern "C" fn calls_payload(frame: &[u8], room: &mut [u8]) -> u32
+pub fn calls_payload(frame: &[u8], room: &mut [u8]) -> u32
     ensures number { result ≡ told (of_payload frame.now) room.old }
     ensures room { room.new ≡ written (of_payload frame.now) room.old }
 {
@@ -81,16 +77,14 @@ pub extern "C" fn calls_payload(frame: &[u8], room: &mut [u8]) -> u32
     tell_bytes(number, part, room)
 }
 
-#[unsafe(no_mangle)]
-pub extern "C" fn calls_next_identification(id: u32) -> u32
+pub fn calls_next_identification(id: u32) -> u32
     ensures { result ≡ next_identification id }
 {
     frame::next_identification(id)
 }
 
 // Where the room for the counts is short, the broadcast is asked without room, which tells its refusal and writes nothing.
-#[unsafe(no_mangle)]
-pub extern "C" fn calls_broadcast(
+pub fn calls_broadcast(
     n: u32,
     k: u32,
     b: u32,
@@ -114,8 +108,7 @@ pub extern "C" fn calls_broadcast(
     tell(a.refusal, &words, room)
 }
 
-#[unsafe(no_mangle)]
-pub extern "C" fn calls_journey(
+pub fn calls_journey(
     n: u32,
     k: u32,
     b: u32,
@@ -144,8 +137,7 @@ pub extern "C" fn calls_journey(
     tell(a.refusal, &words, room)
 }
 
-#[unsafe(no_mangle)]
-pub extern "C" fn calls_journey_counts(
+pub fn calls_journey_counts(
     n: u32,
     k: u32,
     b: u32,

@@ -20,45 +20,32 @@ use hall::Hall;
 use rooms::tell;
 use route::Crossing;
 
-#[unsafe(no_mangle)]
-pub extern "C" fn calls_n_fits(n: u32) -> bool
+pub fn calls_n_fits(n: u32) -> bool
     ensures { result ≡ n_fits n }
 {
     hall::n_fits(n)
 }
 
-#[unsafe(no_mangle)]
-pub extern "C" fn calls_k_fits(n: u32, k: u32) -> bool
+pub fn calls_k_fits(n: u32, k: u32) -> bool
     ensures { result ≡ k_fits n k }
 {
     hall::k_fits(n, k)
 }
 
-#[unsafe(no_mangle)]
-pub extern "C" fn calls_b_fits(k: u32, b: u32) -> bool
+pub fn calls_b_fits(k: u32, b: u32) -> bool
     ensures { result ≡ b_fits k b }
 {
     hall::b_fits(k, b)
 }
 
-#[unsafe(no_mangle)]
-pub extern "C" fn calls_servers(n: u32, k: u32, b: u32, count: u32) -> u32
+pub fn calls_servers(n: u32, k: u32, b: u32, count: u32) -> u32
     ensures { result ≡ pick (valid (hall_of n k b count)) (servers (hall_of n k b count)) 0 }
 {
     hall::servers_of(Hall { n, k, b, count })
 }
 
 // Zeros where there is no such link.
-#[unsafe(no_mangle)]
-pub extern "C" fn calls_first_link(
-    n: u32,
-    k: u32,
-    b: u32,
-    count: u32,
-    x: u32,
-    y: u32,
-    room: &mut [u32],
-) -> u32
+pub fn calls_first_link(n: u32, k: u32, b: u32, count: u32, x: u32, y: u32, room: &mut [u32]) -> u32
     ensures number { result ≡ told (of_first_link (first_link_of (hall_of n k b count) x y)) room.old }
     ensures room { room.new ≡ written (of_first_link (first_link_of (hall_of n k b count) x y)) room.old }
 {
@@ -76,84 +63,61 @@ pub extern "C" fn calls_first_link(
     }
 }
 
-#[unsafe(no_mangle)]
-pub extern "C" fn calls_is_up(
-    n: u32,
-    k: u32,
-    b: u32,
-    count: u32,
-    table: &[u8],
-    server: u32,
-    port: u32,
-) -> bool
+pub fn calls_is_up(n: u32, k: u32, b: u32, count: u32, table: &[u8], server: u32, port: u32) -> bool
     ensures { result ≡ up (hall_of n k b count) table.now server port }
 {
     ports::is_up(Hall { n, k, b, count }, table, server, port)
 }
 
-#[unsafe(no_mangle)]
-pub extern "C" fn calls_is_known(code: u8) -> bool
+pub fn calls_is_known(code: u8) -> bool
     ensures { result ≡ known code }
 {
     ports::is_known(code)
 }
 
-#[unsafe(no_mangle)]
-pub extern "C" fn calls_first_unknown(table: &[u8]) -> usize
+pub fn calls_first_unknown(table: &[u8]) -> usize
     ensures { result ≡ first_unknown table.now }
 {
     ports::first_unknown(table)
 }
 
-#[unsafe(no_mangle)]
-pub extern "C" fn calls_addresses_fit(
-    source: u32,
-    destination: u32,
-    has_proxy: bool,
-    proxy: u32,
-) -> bool
+pub fn calls_addresses_fit(source: u32, destination: u32, has_proxy: bool, proxy: u32) -> bool
     ensures { result ≡ addresses_fit source destination has_proxy proxy }
 {
     frame::addresses::addresses_fit(source, destination, has_proxy, proxy)
 }
 
-#[unsafe(no_mangle)]
-pub extern "C" fn calls_complement(sum: u64) -> u32
+pub fn calls_complement(sum: u64) -> u32
     ensures { result ≡ 65535 - folded sum }
 {
     frame::checksum::complement(sum)
 }
 
-#[unsafe(no_mangle)]
-pub extern "C" fn calls_word_at(sheet: &[u8], at: usize) -> u32
+pub fn calls_word_at(sheet: &[u8], at: usize) -> u32
     ensures { result ≡ word_at sheet.now at }
 {
     words::word_at(sheet, at)
 }
 
-#[unsafe(no_mangle)]
-pub extern "C" fn calls_put_words(room: &mut [u8], at: usize, words: &[u32])
+pub fn calls_put_words(room: &mut [u8], at: usize, words: &[u32])
     ensures { room.new ≡ room_of room.old at (words_bytes words.now) }
 {
     words::put_words(room, at, words);
 }
 
-#[unsafe(no_mangle)]
-pub extern "C" fn calls_put_bytes(room: &mut [u8], at: usize, bytes: &[u8])
+pub fn calls_put_bytes(room: &mut [u8], at: usize, bytes: &[u8])
     ensures { room.new ≡ room_of room.old at bytes.now }
 {
     words::put_bytes(room, at, bytes);
 }
 
-#[unsafe(no_mangle)]
-pub extern "C" fn calls_check_place(n: u32, k: u32, b: u32, count: u32, table: &[u8]) -> u32
+pub fn calls_check_place(n: u32, k: u32, b: u32, count: u32, table: &[u8]) -> u32
     ensures { result ≡ (check_of (hall_of n k b count) table.now).place }
 {
     ports::check_table(Hall { n, k, b, count }, table).place
 }
 
-#[unsafe(no_mangle)]
-pub extern "C" fn calls_route_links(n: u32, k: u32, b: u32, count: u32, x: u32, y: u32) -> u32
+pub fn calls_route_links(n: u32, k: u32, b: u32, count: u32, x: u32, y: u32) -> u32
     ensures { result ≡ (route_between (hall_of n k b count) x y).links }
 {
     route::route_between(Hall { n, k, b, count }, x, y).links

@@ -12,15 +12,13 @@ ghost use Rattle.calls_plan.specs.Outcomes.{of_prefix};
 use hall::Hall;
 use rooms::tell;
 
-#[unsafe(no_mangle)]
-pub extern "C" fn calls_racks(n: u32, k: u32) -> u32
+pub fn calls_racks(n: u32, k: u32) -> u32
     ensures { result ≡ racks_of n k }
 {
     hall::racks_of(n, k)
 }
 
-#[unsafe(no_mangle)]
-pub extern "C" fn calls_next_prefix(n: u32, k: u32, b: u32, count: u32, room: &mut [u32]) -> u32
+pub fn calls_next_prefix(n: u32, k: u32, b: u32, count: u32, room: &mut [u32]) -> u32
     ensures number { result ≡ told (of_prefix (next_prefix (hall_of n k b count))) room.old }
     ensures room { room.new ≡ written (of_prefix (next_prefix (hall_of n k b count))) room.old }
 {
@@ -29,15 +27,13 @@ pub extern "C" fn calls_next_prefix(n: u32, k: u32, b: u32, count: u32, room: &m
     tell(a.refusal, &words, room)
 }
 
-#[unsafe(no_mangle)]
-pub extern "C" fn calls_is_fitted(n: u32, k: u32, b: u32, count: u32, uid: u32) -> bool
+pub fn calls_is_fitted(n: u32, k: u32, b: u32, count: u32, uid: u32) -> bool
     ensures { result ≡ is_fitted (hall_of n k b count) uid }
 {
     plan::is_fitted(Hall { n, k, b, count }, uid)
 }
 
-#[unsafe(no_mangle)]
-pub extern "C" fn calls_fitted_servers(n: u32, k: u32, b: u32, count: u32, uid: u32) -> u32
+pub fn calls_fitted_servers(n: u32, k: u32, b: u32, count: u32, uid: u32) -> u32
     ensures { result ≡ fitted_servers (hall_of n k b count) uid }
 {
     plan::fitted_servers(Hall { n, k, b, count }, uid)

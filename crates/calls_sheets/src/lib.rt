@@ -10,8 +10,7 @@ ghost use Rattle.calls_sheets.specs.Outcomes.{of_sheet, of_codes, of_fields, of_
 
 use rooms::{tell, tell_bytes};
 
-#[unsafe(no_mangle)]
-pub extern "C" fn calls_sheet(sheet: &[u8], room: &mut [u32]) -> u32
+pub fn calls_sheet(sheet: &[u8], room: &mut [u32]) -> u32
     ensures number { result ≡ told (of_sheet (sheet_of sheet.now)) room.old }
     ensures room { room.new ≡ written (of_sheet (sheet_of sheet.now)) room.old }
 {
@@ -20,15 +19,13 @@ pub extern "C" fn calls_sheet(sheet: &[u8], room: &mut [u32]) -> u32
     tell(a.refusal, &words, room)
 }
 
-#[unsafe(no_mangle)]
-pub extern "C" fn calls_sheet_place(sheet: &[u8]) -> u32
+pub fn calls_sheet_place(sheet: &[u8]) -> u32
     ensures { result ≡ (sheet_of sheet.now).place }
 {
     sheet::read_sheet(sheet).place
 }
 
-#[unsafe(no_mangle)]
-pub extern "C" fn calls_sheet_codes(sheet: &[u8], room: &mut [u8]) -> u32
+pub fn calls_sheet_codes(sheet: &[u8], room: &mut [u8]) -> u32
     ensures number { result ≡ told (of_codes sheet.now) room.old }
     ensures room { room.new ≡ written (of_codes sheet.now) room.old }
 {
@@ -37,8 +34,7 @@ pub extern "C" fn calls_sheet_codes(sheet: &[u8], room: &mut [u8]) -> u32
     tell_bytes(number, codes, room)
 }
 
-#[unsafe(no_mangle)]
-pub extern "C" fn calls_codes_part(sheet: &[u8], room: &mut [u8]) -> u32
+pub fn calls_codes_part(sheet: &[u8], room: &mut [u8]) -> u32
     ensures number { result ≡ told (0, codes_part sheet.now) room.old }
     ensures room { room.new ≡ written (0, codes_part sheet.now) room.old }
 {
@@ -46,8 +42,7 @@ pub extern "C" fn calls_codes_part(sheet: &[u8], room: &mut [u8]) -> u32
     tell_bytes(0, part, room)
 }
 
-#[unsafe(no_mangle)]
-pub extern "C" fn calls_sheet_packet(sheet: &[u8], i: u32, room: &mut [u32]) -> u32
+pub fn calls_sheet_packet(sheet: &[u8], i: u32, room: &mut [u32]) -> u32
     ensures number { result ≡ told (of_packet (packet_at sheet.now i)) room.old }
     ensures room { room.new ≡ written (of_packet (packet_at sheet.now i)) room.old }
 {
@@ -56,15 +51,13 @@ pub extern "C" fn calls_sheet_packet(sheet: &[u8], i: u32, room: &mut [u32]) -> 
     tell(a.refusal, &words, room)
 }
 
-#[unsafe(no_mangle)]
-pub extern "C" fn calls_sheet_packet_place(sheet: &[u8], i: u32) -> u32
+pub fn calls_sheet_packet_place(sheet: &[u8], i: u32) -> u32
     ensures { result ≡ (packet_at sheet.now i).place }
 {
     sheetparts::packet_at(sheet, i).place
 }
 
-#[unsafe(no_mangle)]
-pub extern "C" fn calls_packet_fields(sheet: &[u8], i: u32, room: &mut [u32]) -> u32
+pub fn calls_packet_fields(sheet: &[u8], i: u32, room: &mut [u32]) -> u32
     ensures number { result ≡ told (of_fields (packet_fields sheet.now i)) room.old }
     ensures room { room.new ≡ written (of_fields (packet_fields sheet.now i)) room.old }
 {

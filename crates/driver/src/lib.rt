@@ -36,16 +36,7 @@ fn tell(number: u32, words: &[u32], room: &mut [u8]) -> u32
 }
 
 // The route from x to y: its links + 1 uids.
-#[unsafe(no_mangle)]
-pub extern "C" fn tbexlum_route(
-    n: u32,
-    k: u32,
-    b: u32,
-    count: u32,
-    x: u32,
-    y: u32,
-    room: &mut [u8],
-) -> u32
+pub fn tbexlum_route(n: u32, k: u32, b: u32, count: u32, x: u32, y: u32, room: &mut [u8]) -> u32
     ensures number { result ≡ told (of_route (route_between (hall_of n k b count) x y)) room.old }
     ensures room { room.new ≡ written (of_route (route_between (hall_of n k b count) x y)) room.old }
 {
@@ -66,8 +57,7 @@ fn flag(b: bool) -> u32
 }
 
 // A frame's header, read.
-#[unsafe(no_mangle)]
-pub extern "C" fn tbexlum_read_header(frame: &[u8], room: &mut [u8]) -> u32
+pub fn tbexlum_read_header(frame: &[u8], room: &mut [u8]) -> u32
     ensures number { result ≡ told (of_header (read_frame frame.now)) room.old }
     ensures room { room.new ≡ written (of_header (read_frame frame.now)) room.old }
 {
@@ -89,16 +79,14 @@ pub extern "C" fn tbexlum_read_header(frame: &[u8], room: &mut [u8]) -> u32
 }
 
 // The place that goes with the number of a frame's header: the first byte of the field that 13 to 16 are about, 0 with every other number.
-#[unsafe(no_mangle)]
-pub extern "C" fn tbexlum_header_place(frame: &[u8]) -> u32
+pub fn tbexlum_header_place(frame: &[u8]) -> u32
     ensures { result ≡ (read_frame frame.now).place }
 {
     frame::header_place(frame)
 }
 
 // A header written to the start of the room; `has_proxy` is 0 where there is no proxy.
-#[unsafe(no_mangle)]
-pub extern "C" fn tbexlum_write_header(
+pub fn tbexlum_write_header(
     protocol: u8,
     payload_length: u16,
     identification: u32,
@@ -135,8 +123,7 @@ fn wide(x: u8) -> u32
 }
 
 // The table that a server's step is lent, from the hall table.
-#[unsafe(no_mangle)]
-pub extern "C" fn tbexlum_step_table(
+pub fn tbexlum_step_table(
     n: u32,
     k: u32,
     b: u32,
@@ -152,8 +139,7 @@ pub extern "C" fn tbexlum_step_table(
 }
 
 // One forwarding step at a server, over the table that it is lent; `has_proxy` is 0 where there is no proxy.
-#[unsafe(no_mangle)]
-pub extern "C" fn tbexlum_step(
+pub fn tbexlum_step(
     n: u32,
     k: u32,
     b: u32,

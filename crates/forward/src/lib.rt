@@ -467,6 +467,7 @@ fn is_candidate(
 }
 
 // The candidate for a new proxy: the first by level, then by distance, then by uid.
+#[inline(never)]
 fn choose(h: Hall, whole: bool, table: &[u8], me: u32, first: u32) -> Candidate
     requires { Here h whole table.now me × (h.b < first) }
     ensures { result ≡ choice h (seen h (lent h whole table.now me)) (place_of h me) first }

@@ -1,0 +1,142 @@
+// What a C program calls of the crate calls_hall: each of its functions, with the same clauses.
+
+#![tactic(auto)]
+
+ghost use Rattle.std.specs.Prelude.{◌≡◌, [], ◌∷◌};
+ghost use Rattle.hall.specs.Answers.{size_of, sizes_of};
+ghost use Rattle.cells.specs.Answers.{uid_of, tuple_of, cell_around, neighbour_of, link_between};
+ghost use Rattle.route.specs.Answers.{route_between};
+ghost use Rattle.ports.specs.Answers.{check_of};
+ghost use Rattle.hall.specs.Rooms.{told, written};
+ghost use Rattle.hall.specs.Halls.{hall_of};
+ghost use Rattle.calls_hall.specs.Outcomes.{of_sizes, of_uid, of_tuple, of_cell, of_neighbour, of_link, of_route, of_part};
+
+#[unsafe(no_mangle)]
+pub extern "C" fn calls_sizes(n: u32, k: u32, b: u32, count: u32, room: &mut [u32]) -> u32
+    ensures number { result ≡ told (of_sizes (sizes_of (hall_of n k b count))) room.old }
+    ensures room { room.new ≡ written (of_sizes (sizes_of (hall_of n k b count))) room.old }
+{
+    calls_hall::calls_sizes(n, k, b, count, room)
+}
+
+#[unsafe(no_mangle)]
+pub extern "C" fn calls_size_of(n: u32, k: u32, b: u32, count: u32, level: u32) -> u32
+    ensures { result ≡ size_of (hall_of n k b count) level }
+{
+    calls_hall::calls_size_of(n, k, b, count, level)
+}
+
+#[unsafe(no_mangle)]
+pub extern "C" fn calls_uid(
+    n: u32,
+    k: u32,
+    b: u32,
+    count: u32,
+    a0: u32,
+    a1: u32,
+    a2: u32,
+    a3: u32,
+    room: &mut [u32],
+) -> u32
+    ensures number { result ≡ told (of_uid (uid_of (hall_of n k b count) (a0 ∷ a1 ∷ a2 ∷ a3 ∷ []))) room.old }
+    ensures room { room.new ≡ written (of_uid (uid_of (hall_of n k b count) (a0 ∷ a1 ∷ a2 ∷ a3 ∷ []))) room.old }
+{
+    calls_hall::calls_uid(n, k, b, count, a0, a1, a2, a3, room)
+}
+
+#[unsafe(no_mangle)]
+pub extern "C" fn calls_tuple(n: u32, k: u32, b: u32, count: u32, uid: u32, room: &mut [u32]) -> u32
+    ensures number { result ≡ told (of_tuple (tuple_of (hall_of n k b count) uid)) room.old }
+    ensures room { room.new ≡ written (of_tuple (tuple_of (hall_of n k b count) uid)) room.old }
+{
+    calls_hall::calls_tuple(n, k, b, count, uid, room)
+}
+
+#[unsafe(no_mangle)]
+pub extern "C" fn calls_cell(
+    n: u32,
+    k: u32,
+    b: u32,
+    count: u32,
+    uid: u32,
+    level: u32,
+    room: &mut [u32],
+) -> u32
+    ensures number { result ≡ told (of_cell (cell_around (hall_of n k b count) uid level)) room.old }
+    ensures room { room.new ≡ written (of_cell (cell_around (hall_of n k b count) uid level)) room.old }
+{
+    calls_hall::calls_cell(n, k, b, count, uid, level, room)
+}
+
+#[unsafe(no_mangle)]
+pub extern "C" fn calls_neighbour(
+    n: u32,
+    k: u32,
+    b: u32,
+    count: u32,
+    uid: u32,
+    level: u32,
+    room: &mut [u32],
+) -> u32
+    ensures number { result ≡ told (of_neighbour (neighbour_of (hall_of n k b count) uid level)) room.old }
+    ensures room { room.new ≡ written (of_neighbour (neighbour_of (hall_of n k b count) uid level)) room.old }
+{
+    calls_hall::calls_neighbour(n, k, b, count, uid, level, room)
+}
+
+#[unsafe(no_mangle)]
+pub extern "C" fn calls_link(
+    n: u32,
+    k: u32,
+    b: u32,
+    count: u32,
+    uid: u32,
+    level: u32,
+    p: u32,
+    q: u32,
+    room: &mut [u32],
+) -> u32
+    ensures number { result ≡ told (of_link (link_between (hall_of n k b count) uid level p q)) room.old }
+    ensures room { room.new ≡ written (of_link (link_between (hall_of n k b count) uid level p q)) room.old }
+{
+    calls_hall::calls_link(n, k, b, count, uid, level, p, q, room)
+}
+
+#[unsafe(no_mangle)]
+pub extern "C" fn calls_check(n: u32, k: u32, b: u32, count: u32, table: &[u8]) -> u32
+    ensures { result ≡ (check_of (hall_of n k b count) table.now).refusal }
+{
+    calls_hall::calls_check(n, k, b, count, table)
+}
+
+#[unsafe(no_mangle)]
+pub extern "C" fn calls_part(
+    n: u32,
+    k: u32,
+    b: u32,
+    count: u32,
+    table: &[u8],
+    uid: u32,
+    room: &mut [u8],
+) -> u32
+    ensures number { result ≡ told (of_part (hall_of n k b count) table.now uid) room.old }
+    ensures room { room.new ≡ written (of_part (hall_of n k b count) table.now uid) room.old }
+{
+    calls_hall::calls_part(n, k, b, count, table, uid, room)
+}
+
+#[unsafe(no_mangle)]
+pub extern "C" fn calls_route(
+    n: u32,
+    k: u32,
+    b: u32,
+    count: u32,
+    x: u32,
+    y: u32,
+    room: &mut [u32],
+) -> u32
+    ensures number { result ≡ told (of_route (route_between (hall_of n k b count) x y)) room.old }
+    ensures room { room.new ≡ written (of_route (route_between (hall_of n k b count) x y)) room.old }
+{
+    calls_hall::calls_route(n, k, b, count, x, y, room)
+}

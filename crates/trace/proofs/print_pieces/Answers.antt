@@ -1,0 +1,34 @@
+-- `trace::print_pieces` meets its contract: each turn prints a line at least, so that it comes to the end of the trace.
+use mathlib.Core.Path.{refl, sym, ◌∙◌}
+use Prim.Native.Nat.{◌≤◌}
+use native.Mathlib.Omega.{arith}
+use lib.ListN.{length}
+use lib.Seq.{length-take-le}
+use Rattle.lines.proofs.Pieces.{goes_forward}
+use Rattle.trace.proofs.print_pieces.Goals as goal
+
+pub loop-piece-init : goal.loop-piece-init
+loop-piece-init g c = refl
+
+-- the piece is within the room
+pub slice_bounds-write_all-end : goal.slice_bounds-write_all-end
+slice_bounds-write_all-end g c =
+    let w = c.loop-piece in
+    let p = c.trace_piece-piece in
+    let f = goes_forward c.args.sheet.now w.from w.room p.result p.ensures.answer c.if-piece-ne0.false in
+    omega (arith, f.in_room, p.auto.room)
+
+pub slice_bounds-write_all-end-in-loop-piece : goal.slice_bounds-write_all-end-in-loop-piece
+slice_bounds-write_all-end-in-loop-piece g c =
+    let p = c.trace_piece-piece in
+    sym (length-take-le p.result.end p.new.room (slice_bounds-write_all-end g c))
+
+pub loop-piece-smaller : goal.loop-piece-smaller
+loop-piece-smaller g c =
+    let w = c.loop-piece in
+    let p = c.trace_piece-piece in
+    let f = goes_forward c.args.sheet.now w.from w.room p.result p.ensures.answer c.if-piece-ne0.false in
+    omega (arith, f.above, f.in_trace)
+
+pub loop-piece-preserved : goal.loop-piece-preserved
+loop-piece-preserved g c = c.trace_piece-piece.auto.room ∙ c.loop-piece.invariant
