@@ -1,7 +1,7 @@
 -- Sums and products of a place fit 64 bits where the size and the uid fit 32: a cell's first uid is at most the uid, and what is added
 -- to it is below (T + 1) * T. A cell and a sub-cell may be read off the server's sub-cell by one division each.
 use mathlib.Core.Path.{◌≡◌, ◌∙◌, ap}
-use Prim.Native.Nat.{ℕ, ◌+◌, ◌-◌, ◌*◌, ◌/◌, ◌%◌, ◌<◌, ◌≤◌}
+use Prim.Native.Nat.{ℕ, ◌+◌, ◌*◌, ◌/◌, ◌%◌, ◌<◌, ◌≤◌}
 use native.Mathlib.Nat.{div-add-mod', mul-le-mul}
 use native.Mathlib.Omega.{arith}
 use lib.Dec.{ltb}

@@ -1,21 +1,19 @@
 -- A step over the table that a server is lent, whether its codes stand as in the hall table or as they count, is its step over the hall table as
 -- its codes count: a step counts the near codes, and a link that is not fitted is shut by its near code.
 use mathlib.Core.Path.{◌≡◌, sym, ◌∙◌, ap}
-use mathlib.Core.Bool.{Bool, true, false}
+use mathlib.Core.Bool.{true, false}
 use mathlib.Core.List.{List}
 use Prim.Native.Nat.{ℕ, ◌≤◌, ◌<◌}
-use lib.ListN.{length}
 use Rattle.hall.specs.declared.Hall.{Hall}
-use Rattle.ports.specs.Codes.{table_length, SameUps}
 use Rattle.ports.proofs.Parts as parts
 use Rattle.local.specs.Local.{cell_size, distance, hop}
 use Rattle.counted.specs.Counted.{counted}
 use Rattle.counted.proofs.Counted.{counted_twice}
-use Rattle.ends.specs.Tables.{step_length, step_table, cell_part, lent_counted}
+use Rattle.ends.specs.Tables.{step_table, cell_part, lent_counted}
 use Rattle.ends.proofs.Answers.{length-step}
 use Rattle.forward.specs.declared.Packet.{Packet}
 use Rattle.forward.specs.Packets.{tidied}
-use Rattle.forward.specs.Seen.{Seen, usable, seen}
+use Rattle.forward.specs.Seen.{usable}
 use Rattle.forward.specs.Steps.{step_on, step}
 use Rattle.forward.specs.Journeys.{step_at}
 use Rattle.forward.specs.Inside.{Here, Above}

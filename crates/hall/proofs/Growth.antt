@@ -19,7 +19,7 @@ use Rattle.hall.specs.declared.Hall.{Hall}
 use Rattle.hall.specs.declared.Sizes.{Sizes}
 use Rattle.hall.specs.Refusals.{refusal}
 use Rattle.hall.specs.Cells.{t, g}
-use Rattle.hall.specs.Halls.{places, top, most_n, Sized, capacity, n_fits, k_fits, b_fits, count_fits, valid, servers, largest}
+use Rattle.hall.specs.Halls.{places, top, most_n, Sized, n_fits, k_fits, b_fits, count_fits, valid, servers, largest}
 use Rattle.hall.specs.Answers.{size_at, size_of, sizes_of}
 use Rattle.hall.proofs.Cells.{t_pos}
 

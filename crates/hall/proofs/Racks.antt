@@ -1,10 +1,9 @@
 -- Laws of racks, which are DCell1s: a DCell of level m + 1 is `racks` of them, so a hall can have t(k) / t(1), and no more than it has servers;
 -- and what a count that fits says.
 use mathlib.Core.Path.{◌≡◌, refl, sym, ◌∙◌, ap}
-use mathlib.Core.Bool.{true, false}
+use mathlib.Core.Bool.{true}
 use Prim.Native.Nat.{ℕ, zero, suc, ◌+◌, ◌-◌, ◌*◌, ◌/◌, ◌<◌, ◌≤◌}
 use native.Mathlib.Nat.{le_trans, mul-div_left, mul-le-mul, mul-le-mul_left, mul-le-mul_right}
-use native.Mathlib.Numerals.{add-one}
 use native.Mathlib.Omega.{arith}
 use lib.Dec.{eqb, leb}
 use borrow.Author.Tests.{leb-true, leb-false, eqb-true, eq-eqb, le-leb}

@@ -7,7 +7,7 @@ use Prim.Native.Nat.{ℕ, zero, suc, ◌+◌, ◌-◌, ◌<◌}
 use native.Mathlib.Omega.{arith}
 use lib.Dec.{eqb, leb}
 use lib.ListN.{replicate}
-use Rattle.combine.specs.Tests.{pick, both, either}
+use Rattle.combine.specs.Tests.{pick}
 use Rattle.combine.proofs.Tests.{cases, both_false, pick_same}
 use Rattle.hall.specs.declared.Hall.{Hall}
 use Rattle.hall.specs.Cells.{cell, neighbour}

@@ -1,14 +1,14 @@
 -- Where the fitted servers are the first of the hall: in a DCell2 the rank of a DCell1 is its index; in a DCell3 whose first DCell2s are full it is
 -- its number among all, and those that were begun with are fitted anyway.
-use mathlib.Core.Path.{◌≡◌, refl, sym, ◌∙◌, ap}
-use mathlib.Core.Bool.{Bool, true, false}
+use mathlib.Core.Path.{◌≡◌, sym, ◌∙◌, ap}
+use mathlib.Core.Bool.{true}
 use Prim.Native.Nat.{ℕ, suc, ◌+◌, ◌-◌, ◌*◌, ◌/◌, ◌%◌, ◌<◌, ◌≤◌}
 use native.Mathlib.Nat.{div-add-mod', div-lt_iff_lt-mul, mod-eq_of_lt, mul-le-mul_right}
 use native.Mathlib.Omega.{arith}
 use lib.Dec.{eqb, leb, ltb}
 use lib.Arith.{digits_lt}
 use borrow.Author.Tests.{ltb-true, ltb-false, lt-ltb, leb-true, eqb-true}
-use Rattle.combine.specs.Tests.{both, either}
+use Rattle.combine.specs.Tests.{both}
 use Rattle.combine.proofs.Tests.{cases, both_ways, both_left, both_right, either_cases}
 use Rattle.hall.specs.declared.Hall.{Hall}
 use Rattle.hall.specs.Cells.{t, cell, sub}

@@ -1,7 +1,7 @@
 -- No prefix comes twice, and as many can be placed as there are DCell1s: the place and the rank of a DCell1 undo each other, over the level.
 use mathlib.Core.Path.{◌≡◌, refl, sym, ◌∙◌, ap, ap₂}
 use mathlib.Core.List.{List, [], ◌∷◌}
-use Prim.Native.Nat.{ℕ, zero, suc, ◌+◌, ◌-◌, ◌*◌, ◌/◌, ◌<◌, ◌≤◌}
+use Prim.Native.Nat.{ℕ, zero, suc, ◌+◌, ◌<◌, ◌≤◌}
 use native.Mathlib.Omega.{arith}
 use Rattle.hall.specs.Cells.{t}
 use Rattle.hall.proofs.Growth.{t_up}

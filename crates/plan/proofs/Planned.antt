@@ -1,19 +1,14 @@
 -- What is promised of the planner, each from its law.
-use mathlib.Core.Path.{◌≡◌, refl, sym, ◌∙◌, ap}
-use mathlib.Core.Bool.{true, false}
-use mathlib.Core.List.{List}
-use Prim.Native.Nat.{ℕ, suc, ◌+◌, ◌-◌, ◌<◌, ◌≤◌}
+use mathlib.Core.Path.{◌≡◌, sym, ◌∙◌}
+use mathlib.Core.Bool.{true}
+use Prim.Native.Nat.{suc, ◌-◌, ◌≤◌}
 use native.Mathlib.Omega.{arith}
-use lib.Dec.{eqb, leb}
+use lib.Dec.{eqb}
 use borrow.Author.Tests.{eq-eqb, eqb-true, lt-leb}
-use Rattle.hall.specs.declared.Hall.{Hall}
-use Rattle.hall.specs.Halls.{racks, capacity, count_fits, valid, is_full}
-use Rattle.hall.specs.Refusals.{refusal}
-use Rattle.hall.specs.Tuples.{tuple}
+use Rattle.hall.specs.Halls.{racks, capacity, count_fits, is_full}
 use Rattle.hall.proofs.Growth.{valid_known}
 use Rattle.hall.proofs.Racks.{capacity_is, capacity_low, count_most}
-use Rattle.plan.specs.Plan.{place, IsPrefix, rank}
-use Rattle.plan.specs.Answers.{asks_plan, next_prefix}
+use Rattle.plan.specs.Plan.{rank}
 use Rattle.plan.specs.Planned.{ByFigure, ByTuple, NeverTwice, NeverMoves, AllPlaced, FittedAsAdded, FullFitted, Worded}
 use Rattle.plan.proofs.Place.{place_fits, place_rank, place_once}
 use Rattle.plan.proofs.Adding.{add-place, stays, new_free, new_fitted, others_stay, fitted_placed}

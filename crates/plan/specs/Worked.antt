@@ -1,6 +1,6 @@
 -- Worked answers of the planner, n = 2: a DCell3 has 43 DCell2s of 7 DCell1s each.
 -- Request K5.
-use Rattle.std.specs.Prelude.{◌≡◌, refl, true, false, List, [], ◌∷◌, map, ℕ}
+use Rattle.std.specs.Prelude.{◌≡◌, refl, true, false, [], ◌∷◌, map, ℕ}
 use Rattle.combine.specs.Lists.{up_to}
 use Rattle.hall.specs.declared.Hall.{Hall}
 use Rattle.hall.specs.Refusals.{refusal}

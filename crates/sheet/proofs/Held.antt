@@ -16,7 +16,7 @@ use Rattle.sheet.specs.declared.Field.{Field}
 use Rattle.sheet.specs.declared.Field.TheVariants.{Value, Refused}
 use Rattle.words.specs.Words.{value}
 use Rattle.sheet.specs.Formats.{read}
-use Rattle.sheet.specs.Sheets.{longest, code, retry, codes, packet, packets, tables_of, night_sheet}
+use Rattle.sheet.specs.Sheets.{longest, code, codes, packet, packets, tables_of, night_sheet}
 use Rattle.sheet.specs.Answers.{count_place, codes_place, code_count_of, hall_in, accepted_as, sheet_of, packet_place}
 use Rattle.sheet.specs.Accepted.{packet_count_of, PacketFits, Head, Accepted}
 use Rattle.sheet.proofs.Reading.{place_of, read_done, field_read, field_sound, then_value, within}

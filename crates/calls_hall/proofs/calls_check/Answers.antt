@@ -1,6 +1,5 @@
 -- `calls_hall::calls_check` meets its contract: it tells what the table check answers.
 use mathlib.Core.Path.{ap}
-use borrow.Author.Rules.{rules}
 use Rattle.ports.specs.declared.TableCheck.{TableCheck}
 use Rattle.calls_hall.proofs.calls_check.Goals as goal
 

@@ -1,5 +1,4 @@
 -- `calls_hall::calls_part` meets its contract: it tells the part's refusal, and the part.
-use borrow.Author.Rules.{rules}
 use Rattle.calls_hall.proofs.calls_part.Goals as goal
 
 pub returns : goal.returns

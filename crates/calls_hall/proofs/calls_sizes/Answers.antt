@@ -1,5 +1,4 @@
 -- `calls_hall::calls_sizes` meets its contract: it tells what the call answers.
-use borrow.Author.Rules.{rules}
 use Rattle.calls_hall.proofs.calls_sizes.Goals as goal
 
 pub returns : goal.returns

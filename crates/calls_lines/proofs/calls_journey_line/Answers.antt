@@ -1,5 +1,4 @@
 -- `calls_lines::calls_journey_line` meets its contract: it writes what the call writes, and tells its end.
-use borrow.Author.Rules.{rules}
 use Rattle.calls_lines.proofs.calls_journey_line.Goals as goal
 
 pub returns : goal.returns

@@ -1,7 +1,6 @@
 -- `calls_lines::calls_trace_piece` meets its contract: it writes what the call writes, and tells how far it got where it is not refused.
 use mathlib.Core.Path.{◌≡◌, refl, sym}
 use borrow.Author.Tests.{eq-eqb, ne_eqb}
-use borrow.Author.Rules.{rules}
 use Rattle.lines.specs.Traces.{piece_of}
 use Rattle.calls_lines.proofs.calls_trace_piece.Goals as goal
 

@@ -1,5 +1,4 @@
 -- `calls_packets::calls_distances_origin` meets its contract: it tells what the call answers.
-use borrow.Author.Rules.{rules}
 use Rattle.calls_packets.proofs.calls_distances_origin.Goals as goal
 
 pub returns : goal.returns

@@ -1,5 +1,4 @@
 -- `calls_packets::calls_journey` meets its contract: it tells what the call answers.
-use borrow.Author.Rules.{rules}
 use Rattle.calls_packets.proofs.calls_journey.Goals as goal
 
 pub returns : goal.returns

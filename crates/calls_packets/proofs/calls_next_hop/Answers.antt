@@ -1,5 +1,4 @@
 -- `calls_packets::calls_next_hop` meets its contract: it tells what the call answers.
-use borrow.Author.Rules.{rules}
 use Rattle.calls_packets.proofs.calls_next_hop.Goals as goal
 
 pub returns : goal.returns

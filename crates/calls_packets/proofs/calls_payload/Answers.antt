@@ -1,6 +1,5 @@
 -- `calls_packets::calls_payload` meets its contract: it tells the frame's refusal, and the payload.
 use mathlib.Core.Path.{ap}
-use borrow.Author.Rules.{rules}
 use Rattle.frame.specs.declared.Header.{Header}
 use Rattle.calls_packets.proofs.calls_payload.Goals as goal
 

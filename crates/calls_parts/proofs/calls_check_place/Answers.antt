@@ -1,6 +1,5 @@
 -- `calls_parts::calls_check_place` meets its contract: it tells what the table check answers.
 use mathlib.Core.Path.{ap}
-use borrow.Author.Rules.{rules}
 use Rattle.ports.specs.declared.TableCheck.{TableCheck}
 use Rattle.calls_parts.proofs.calls_check_place.Goals as goal
 

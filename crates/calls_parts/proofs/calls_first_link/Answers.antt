@@ -1,5 +1,4 @@
 -- `calls_parts::calls_first_link` meets its contract: it tells nothing by zeros, and a link by its level and its ends.
-use borrow.Author.Rules.{rules}
 use Rattle.calls_parts.proofs.calls_first_link.Goals as goal
 
 pub returns-in-Nothing : goal.returns-in-Nothing

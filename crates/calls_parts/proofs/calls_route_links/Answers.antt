@@ -1,6 +1,5 @@
 -- `calls_parts::calls_route_links` meets its contract: it tells the route's links.
 use mathlib.Core.Path.{ap}
-use borrow.Author.Rules.{rules}
 use Rattle.route.specs.declared.Route.{Route}
 use Rattle.calls_parts.proofs.calls_route_links.Goals as goal
 

@@ -1,5 +1,4 @@
 -- `calls_plan::calls_next_prefix` meets its contract: it tells what the call answers.
-use borrow.Author.Rules.{rules}
 use Rattle.calls_plan.proofs.calls_next_prefix.Goals as goal
 
 pub returns : goal.returns

@@ -1,5 +1,4 @@
 -- `calls_sheets::calls_codes_part` meets its contract: it tells the part.
-use borrow.Author.Rules.{rules}
 use Rattle.calls_sheets.proofs.calls_codes_part.Goals as goal
 
 pub returns : goal.returns

@@ -1,5 +1,4 @@
 -- `calls_sheets::calls_packet_fields` meets its contract: it tells what the call answers.
-use borrow.Author.Rules.{rules}
 use Rattle.calls_sheets.proofs.calls_packet_fields.Goals as goal
 
 pub returns : goal.returns

@@ -1,5 +1,4 @@
 -- `calls_sheets::calls_sheet_codes` meets its contract: it tells the sheet's refusal, and its codes.
-use borrow.Author.Rules.{rules}
 use Rattle.calls_sheets.proofs.calls_sheet_codes.Goals as goal
 
 pub returns : goal.returns

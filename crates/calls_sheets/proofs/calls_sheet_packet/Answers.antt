@@ -1,5 +1,4 @@
 -- `calls_sheets::calls_sheet_packet` meets its contract: it tells what the call answers.
-use borrow.Author.Rules.{rules}
 use Rattle.calls_sheets.proofs.calls_sheet_packet.Goals as goal
 
 pub returns : goal.returns

@@ -1,6 +1,5 @@
 -- `calls_sheets::calls_sheet_packet_place` meets its contract: it tells what the call answers.
 use mathlib.Core.Path.{ap}
-use borrow.Author.Rules.{rules}
 use Rattle.sheetparts.specs.declared.SheetPacket.{SheetPacket}
 use Rattle.calls_sheets.proofs.calls_sheet_packet_place.Goals as goal
 

@@ -1,5 +1,4 @@
 -- `cells::cell_around` meets its contract: the cell's first uid is its number times its size.
-use borrow.Author.Rules.{rules}
 use mathlib.Core.Path.{◌≡◌, sym, ◌∙◌}
 use native.Mathlib.Nat.{div-mul-le_self}
 use native.Mathlib.Omega.{arith}

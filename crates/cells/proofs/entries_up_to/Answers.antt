@@ -1,12 +1,11 @@
 -- `cells::entries_up_to` meets its contract: the places up to i hold their entries, the number of the cell of level i is what is left, and
 -- the next entry is its remainder.
-use borrow.Author.Rules.{rules}
 use mathlib.Core.Path.{◌≡◌, refl, ◌∙◌}
-use mathlib.Core.List.{List, ◌++◌}
-use Prim.Native.Nat.{ℕ, ◌+◌, ◌-◌, ◌/◌, ◌%◌, ◌≤◌, ◌<◌}
+use mathlib.Core.List.{List}
+use Prim.Native.Nat.{ℕ, ◌+◌, ◌/◌, ◌%◌, ◌≤◌, ◌<◌}
 use native.Mathlib.Numerals.{add-one}
 use native.Mathlib.Omega.{arith}
-use lib.ListN.{length, drop, replicate, set}
+use lib.ListN.{length, replicate, set}
 use borrow.Author.Tests.{le-leb, lt-leb}
 use Rattle.combine.specs.Lists.{up_to}
 use Rattle.combine.proofs.Lists.{up_more, up_zeros, length_up}

@@ -1,5 +1,4 @@
 -- `cells::entry_fits` meets its contract: above k an entry is 0, at 0 it is below n, between it is below t(i - 1) + 1.
-use borrow.Author.Rules.{rules}
 use mathlib.Core.Path.{◌≡◌}
 use mathlib.Core.List.{List}
 use Prim.Native.Nat.{ℕ, suc, ◌+◌, ◌-◌, ◌<◌, ◌≤◌}

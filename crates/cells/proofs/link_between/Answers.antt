@@ -1,6 +1,5 @@
 -- `cells::link_between` meets its contract: the ends are those of the link between the first servers of the two sub-cells, and both are in
 -- the hall, since they share a cell with the server asked.
-use borrow.Author.Rules.{rules}
 use mathlib.Core.Path.{◌≡◌, sym, ◌∙◌, ap}
 use Prim.Native.Nat.{ℕ, ◌+◌, ◌-◌, ◌*◌, ◌/◌, ◌<◌, ◌≤◌}
 use native.Mathlib.Nat.{div-mul-le_self, mul-le-mul_right}

@@ -1,5 +1,4 @@
 -- `cells::neighbour_of` meets its contract: sub-cells of level i - 1 have t(i - 1) servers, and a neighbour is in the hall.
-use borrow.Author.Rules.{rules}
 use mathlib.Core.Path.{◌≡◌, sym, ◌∙◌, ap}
 use Prim.Native.Nat.{ℕ, ◌-◌, ◌<◌}
 use native.Mathlib.Omega.{arith}

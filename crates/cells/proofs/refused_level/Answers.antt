@@ -1,5 +1,4 @@
 -- `cells::refused_level` meets its contract: what is refused before the level is refused with it, and then the level decides.
-use borrow.Author.Rules.{rules}
 use mathlib.Core.Path.{sym, ◌∙◌}
 use Rattle.cells.proofs.Asks.{level_later, level_low, level_high, level_sound}
 use Rattle.cells.proofs.refused_level.Goals as goal

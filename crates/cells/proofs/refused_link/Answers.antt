@@ -1,5 +1,4 @@
 -- `cells::refused_link` meets its contract: what is refused before the sub-cells is refused with them, and then they decide.
-use borrow.Author.Rules.{rules}
 use mathlib.Core.Path.{◌≡◌, refl, sym, ◌∙◌, ap}
 use mathlib.Core.Bool.{Bool, true, false}
 use Prim.Native.Nat.{ℕ, ◌-◌, ◌<◌, ◌≤◌}

@@ -1,5 +1,4 @@
 -- `cells::refused_uid` meets its contract: a hall without servers is none, and then the uid decides.
-use borrow.Author.Rules.{rules}
 use borrow.Author.Tests.{lt-ltb, le-ltb}
 use mathlib.Core.Path.{◌≡◌}
 use mathlib.Core.List.{[], ◌∷◌}

@@ -1,13 +1,9 @@
 -- `cells::tuple_fits` meets its contract: the places passed all fit.
-use mathlib.Core.Bool.{true}
 use mathlib.Core.Path.{◌≡◌, sym, ◌∙◌}
-use Prim.Native.Nat.{◌-◌, ◌≤◌}
 use native.Mathlib.Omega.{arith}
-use borrow.Author.Tests.{not-true, not-false}
-use Rattle.combine.specs.Tests.{all_below}
 use Rattle.combine.proofs.Tests.{all_none, all_more, all_fails, both_true}
 use Rattle.hall.specs.Halls.{places}
-use Rattle.hall.specs.Tuples.{entry_fits, tuple_fits}
+use Rattle.hall.specs.Tuples.{tuple_fits}
 use Rattle.cells.proofs.tuple_fits.Goals as goal
 
 pub loop-i-init : goal.loop-i-init

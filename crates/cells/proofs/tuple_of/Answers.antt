@@ -1,5 +1,4 @@
 -- `cells::tuple_of` meets its contract: a valid hall's uid has its entries.
-use borrow.Author.Rules.{rules}
 use mathlib.Core.Path.{sym, ◌∙◌}
 use Rattle.cells.proofs.Asks.{uid_known, refused_test, sound_test}
 use Rattle.cells.proofs.tuple_of.Goals as goal

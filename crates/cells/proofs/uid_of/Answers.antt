@@ -1,6 +1,4 @@
 -- `cells::uid_of` meets its contract: the hall is asked first, by its sizes, then the tuple.
-use borrow.Author.Rules.{rules}
-use borrow.Author.Tests.{not-true, not-false}
 use mathlib.Core.Path.{◌≡◌, sym, ◌∙◌}
 use mathlib.Core.Bool.{true}
 use Rattle.hall.specs.Refusals.{refusal}

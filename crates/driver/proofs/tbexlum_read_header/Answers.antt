@@ -1,5 +1,4 @@
 -- `driver::tbexlum_read_header` meets its contract: it tells the header's fields, the flag as a number.
-use borrow.Author.Rules.{rules}
 use Rattle.driver.proofs.tbexlum_read_header.Goals as goal
 
 pub returns : goal.returns

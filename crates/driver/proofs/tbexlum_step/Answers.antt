@@ -1,5 +1,4 @@
 -- `driver::tbexlum_step` meets its contract: it tells the step's answer, the flag and the bytes as numbers.
-use borrow.Author.Rules.{rules}
 use Rattle.driver.proofs.tbexlum_step.Goals as goal
 
 pub returns : goal.returns

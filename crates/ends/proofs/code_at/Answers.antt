@@ -1,7 +1,6 @@
 -- `ends::code_at` meets its contract: the index is the definition's and fits, and a byte that the table has not is no port.
 use native.Mathlib.Omega.{arith}
 use lib.ListN.{get_or-eq_default}
-use borrow.Author.Rules.{rules}
 use borrow.Author.Tests.{le-leb}
 use Prim.Native.Nat.{ℕ}
 use Rattle.ports.specs.Codes.{code_of}

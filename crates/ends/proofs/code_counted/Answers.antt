@@ -1,8 +1,6 @@
 -- `ends::code_counted` meets its contract: its tests are those of a port's two servers, and a port of level 0 or 1 has them in one DCell1.
 use mathlib.Core.Path.{◌≡◌, sym, ◌∙◌, ap}
 use native.Mathlib.Omega.{arith}
-use borrow.Author.Rules.{rules}
-use borrow.Author.Tests.{not-true, not-false}
 use Rattle.hall.proofs.Growth.{valid_known}
 use Rattle.cells.specs.declared.Neighbour.{Neighbour}
 use Rattle.cells.proofs.Asks.{neighbour_told}

@@ -5,7 +5,6 @@ use native.Mathlib.Nat.{div-add-mod', mul-le-mul_right}
 use native.Mathlib.Numerals.{add-one}
 use native.Mathlib.Omega.{arith}
 use lib.ListN.{length}
-use borrow.Author.Rules.{rules}
 use Rattle.hall.specs.Halls.{servers}
 use Rattle.hall.proofs.Growth.{valid_known, uid_fits}
 use Rattle.plan.specs.Answers.{fitted}

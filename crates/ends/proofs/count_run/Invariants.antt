@@ -1,16 +1,10 @@
 -- `ends::count_run` meets its contract: after d turns the codes of the first d ports are as they count and those of the others as lent, and all
 -- together they are the run.
-use mathlib.Core.Path.{◌≡◌, refl, ◌∙◌, ap}
-use Prim.Native.Nat.{◌+◌, ◌-◌, ◌≤◌}
-use native.Mathlib.Omega.{arith}
-use lib.ListN.{length}
-use borrow.Author.Rules.{rules}
-use Rattle.hall.proofs.Growth.{valid_known}
+use mathlib.Core.Path.{◌≡◌}
+use Prim.Native.Nat.{◌-◌, ◌≤◌}
 use Rattle.local.specs.Local.{cell_size, first_of}
-use Rattle.plan.proofs.Asks.{told_fitted}
-use Rattle.ends.specs.Filling.{layered, run_counted}
-use Rattle.ends.proofs.Spread.{length-layered}
-use Rattle.ends.proofs.Counts.{code_above, run_more, run_put}
+use Rattle.ends.specs.Filling.{layered}
+use Rattle.ends.proofs.Counts.{code_above}
 use Rattle.ends.proofs.count_run.Given as goal
 
 abbrev pub invariant-loop-d : goal.invariant-loop-d

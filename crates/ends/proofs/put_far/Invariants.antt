@@ -1,16 +1,11 @@
 -- `ends::put_far` meets its contract: after d turns the codes of the first d levels above b stand in the room, and all together they are the far
 -- codes one behind the other.
-use mathlib.Core.Path.{◌≡◌, refl, ◌∙◌, ap}
-use Prim.Native.Nat.{ℕ, suc, ◌+◌, ◌-◌, ◌≤◌}
-use native.Mathlib.Numerals.{add-one}
-use native.Mathlib.Omega.{arith}
-use lib.ListN.{length}
-use Rattle.hall.proofs.Growth.{valid_known}
-use Rattle.local.specs.Local.{cell_size, first_of}
-use Rattle.ends.specs.Tables.{levels, far_code}
-use Rattle.ends.specs.Filling.{spread, layered}
-use Rattle.ends.proofs.Spread.{length-layered}
-use Rattle.ends.proofs.Codes.{levels_few, code, far_put}
+use mathlib.Core.Path.{◌≡◌}
+use Prim.Native.Nat.{◌-◌, ◌≤◌}
+use Rattle.local.specs.Local.{cell_size}
+use Rattle.ends.specs.Tables.{levels}
+use Rattle.ends.specs.Filling.{layered}
+use Rattle.ends.proofs.Codes.{code}
 use Rattle.ends.proofs.put_far.Given as goal
 
 abbrev pub invariant-loop-d : goal.invariant-loop-d

@@ -5,7 +5,6 @@ use native.Mathlib.Nat.{mod-lt, div-add-mod', mul-le-mul_right}
 use native.Mathlib.Numerals.{add-one}
 use native.Mathlib.Omega.{arith}
 use lib.ListN.{length}
-use borrow.Author.Rules.{rules}
 use Rattle.hall.specs.Cells.{t, neighbour}
 use Rattle.hall.proofs.Growth.{valid_known, valid_size, size_of_lem}
 use Rattle.cells.specs.declared.Neighbour.{Neighbour}

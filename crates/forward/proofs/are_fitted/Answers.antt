@@ -1,6 +1,4 @@
 -- `forward::are_fitted` meets its contract: the near server is asked for, and then the far one where it can be of another DCell1.
-use borrow.Author.Rules.{rules}
-use borrow.Author.Tests.{not-true, not-false}
 use Rattle.forward.proofs.CodeTables.{first_unfitted, first_fitted_lem, second_fitted}
 use Rattle.forward.proofs.are_fitted.Goals as goal
 

@@ -1,17 +1,15 @@
 -- `forward::choose` meets its contract: what is left of the search is the whole search, and no candidate is passed over, so the first that
 -- is met at a level is its nearest, then its lowest.
-use mathlib.Core.Path.{◌≡◌, refl, sym, ◌∙◌}
+use mathlib.Core.Path.{refl, sym, ◌∙◌}
 use mathlib.Core.Bool.{true}
-use Prim.Native.Nat.{ℕ, suc, ◌+◌, ◌-◌, ◌≤◌, ◌<◌}
+use Prim.Native.Nat.{◌-◌, ◌<◌}
 use native.Mathlib.Omega.{arith}
-use borrow.Author.Rules.{rules}
 use Rattle.hall.proofs.Growth.{valid_known}
 use Rattle.local.specs.Local.{cell_size, place_of}
-use Rattle.forward.specs.declared.Candidate.TheVariants.{Nothing}
 use Rattle.forward.specs.Seen.{seen}
 use Rattle.forward.specs.Inside.{lent}
-use Rattle.forward.specs.Proxies.{is_candidate, choice}
-use Rattle.forward.proofs.CodeChoice.{choice_from, choice_whole, found_here, found_later, found_never, count_is, count_fits, distance_is, distance_small, look_finds, look_passes, passed_more, none_behind, nearest_best, none_best}
+use Rattle.forward.specs.Proxies.{is_candidate}
+use Rattle.forward.proofs.CodeChoice.{choice_whole, found_here, found_later, found_never, count_is, count_fits, distance_is, distance_small, look_finds, look_passes, passed_more, none_behind, nearest_best, none_best}
 use Rattle.forward.proofs.choose.Reads as reads
 use Rattle.forward.proofs.choose.Lts as lts
 use Rattle.forward.proofs.farthest.Reads as farthest-reads

@@ -1,5 +1,4 @@
 -- `forward::cleared_if` meets its contract: its one test is the definition's.
-use borrow.Author.Rules.{rules}
 use Rattle.forward.proofs.cleared_if.Goals as goal
 
 pub returns-then-arrived : goal.returns-then-arrived

@@ -1,7 +1,6 @@
 -- `forward::far_place` meets its contract: the far codes stand behind those of the cell, server by server.
 use mathlib.Core.Path.{◌≡◌, ◌∙◌}
 use native.Mathlib.Omega.{arith}
-use borrow.Author.Rules.{rules}
 use Rattle.ports.specs.Codes.{cell_length}
 use Rattle.local.proofs.Asks.{bytes_are}
 use Rattle.ends.proofs.Codes.{far_few, cell_bytes}

@@ -1,10 +1,7 @@
 -- `forward::farthest` meets its contract: the most so far is at least each distance passed.
 use Prim.Native.Nat.{ℕ, ◌-◌, ◌≤◌, ◌<◌}
-use native.Mathlib.Omega.{arith}
 use lib.ListN.{get_or}
-use borrow.Author.Rules.{rules}
 use Rattle.local.specs.Local.{none}
-use Rattle.forward.proofs.CodeChoice.{within_more}
 use Rattle.forward.proofs.farthest.Given as goal
 
 abbrev pub invariant-loop-place : goal.invariant-loop-place

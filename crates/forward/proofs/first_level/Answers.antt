@@ -1,5 +1,5 @@
 -- `forward::first_level` meets its contract, test by test.
-use borrow.Author.Tests.{not-true, not-false, le-ltb, lt-ltb}
+use borrow.Author.Tests.{le-ltb, lt-ltb}
 use native.Mathlib.Omega.{arith}
 use Rattle.forward.proofs.first_level.Goals as goal
 

@@ -1,6 +1,5 @@
 -- `forward::first_link` meets its contract: what the call tells is the link.
 use mathlib.Core.Path.{◌∙◌, ap}
-use borrow.Author.Rules.{rules}
 use Rattle.route.specs.declared.FirstLink.{FirstLink}
 use Rattle.route.proofs.Answers.{first_told}
 use Rattle.forward.proofs.first_link.Goals as goal

@@ -1,6 +1,5 @@
 -- `forward::is_candidate` meets its contract: a place at another distance need not be usable.
 use borrow.Author.Tests.{eq-eqb, ne_eqb}
-use borrow.Author.Rules.{rules}
 use Rattle.forward.proofs.is_candidate.Goals as goal
 
 pub returns-then-x-d : goal.returns-then-x-d

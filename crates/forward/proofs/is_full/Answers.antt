@@ -1,5 +1,4 @@
 -- `forward::is_full` meets its contract: the call tells how many DCell1s the hall can have.
-use borrow.Author.Rules.{rules}
 use Rattle.plan.proofs.Asks.{full_told}
 use Rattle.forward.proofs.is_full.Goals as goal
 

@@ -1,7 +1,5 @@
 -- `forward::is_open` meets its contract: the near code decides where it is not up, else the far one.
 use native.Mathlib.Omega.{arith}
-use borrow.Author.Tests.{not-true, not-false}
-use borrow.Author.Rules.{rules}
 use Rattle.forward.proofs.CodeTables.{far_there, open_not, open_far}
 use Rattle.forward.proofs.is_open.Goals as goal
 

@@ -1,7 +1,5 @@
 -- `forward::is_up_at` meets its contract: what is lent has both codes, or the hall table has them at the server and at its neighbour.
 use mathlib.Core.Path.{◌∙◌}
-use borrow.Author.Tests.{not-true, not-false}
-use borrow.Author.Rules.{rules}
 use Rattle.forward.proofs.CodeSteps.{proxy_is}
 use Rattle.forward.proofs.CodeTables.{own_length, own_open, place_closed, neighbour_decides}
 use Rattle.forward.proofs.is_up_at.Goals as goal

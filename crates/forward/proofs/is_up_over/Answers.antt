@@ -1,8 +1,6 @@
 -- `forward::is_up_over` meets its contract: what the near end is lent has both codes, or the hall table has them at both ends.
 use mathlib.Core.Path.{◌≡◌, ◌∙◌}
 use native.Mathlib.Omega.{arith}
-use borrow.Author.Tests.{not-true, not-false}
-use borrow.Author.Rules.{rules}
 use Rattle.hall.proofs.Growth.{valid_known}
 use Rattle.local.specs.Local.{cell_size}
 use Rattle.local.proofs.Sizes.{size_pos, place_under}

@@ -1,7 +1,5 @@
 -- `forward::is_usable` meets its contract: a link counts where both its ends are up and both its servers fitted.
 use mathlib.Core.Path.{sym, ◌∙◌}
-use borrow.Author.Rules.{rules}
-use borrow.Author.Tests.{not-true, not-false}
 use Rattle.forward.proofs.CodeTables.{crossed_servers, link_shut, link_full, link_fitted}
 use Rattle.forward.proofs.is_usable.Goals as goal
 

@@ -1,7 +1,5 @@
 -- `forward::is_usable_at` meets its contract: a link counts where both its ends are up and both its servers fitted.
 use mathlib.Core.Path.{sym, ◌∙◌}
-use borrow.Author.Rules.{rules}
-use borrow.Author.Tests.{not-true, not-false}
 use Rattle.forward.proofs.CodeTables.{placed_servers, place_shut, place_full, place_fitted}
 use Rattle.forward.proofs.is_usable_at.Goals as goal
 

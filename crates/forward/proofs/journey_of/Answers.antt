@@ -2,7 +2,6 @@
 use mathlib.Core.Path.{◌≡◌}
 use mathlib.Core.List.{◌∷◌}
 use native.Mathlib.Omega.{arith}
-use borrow.Author.Rules.{rules}
 use Rattle.hall.specs.Halls.{asks_hall}
 use Rattle.hall.specs.Refusals.{refusal}
 use Rattle.ports.specs.Codes.{table_length}

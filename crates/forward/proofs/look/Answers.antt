@@ -1,6 +1,5 @@
 -- `forward::look` meets its contract: it tells what the way on makes of the packet.
 use Rattle.forward.specs.Inside.{outlook_of}
-use borrow.Author.Rules.{rules}
 use Rattle.forward.proofs.look.Goals as goal
 
 pub way_over-requires : goal.way_over-requires

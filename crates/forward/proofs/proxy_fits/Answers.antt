@@ -1,5 +1,4 @@
 -- `forward::proxy_fits` meets its contract, test by test.
-use borrow.Author.Rules.{rules}
 use borrow.Author.Tests.{not-false}
 use Rattle.forward.proofs.proxy_fits.Goals as goal
 

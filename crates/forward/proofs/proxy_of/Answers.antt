@@ -1,5 +1,4 @@
 -- `forward::proxy_of` meets its contract: the neighbour of the server at the place.
-use borrow.Author.Rules.{rules}
 use Rattle.forward.proofs.CodeSteps.{proxy_is}
 use Rattle.forward.proofs.proxy_of.Goals as goal
 

@@ -1,5 +1,4 @@
 -- `forward::refused` meets its contract: the table is asked first, then the packet.
-use borrow.Author.Rules.{rules}
 use Rattle.forward.proofs.CodeAsks.{refuses_length, refuses_packet}
 use Rattle.forward.proofs.refused.Goals as goal
 

@@ -1,5 +1,4 @@
 -- `forward::refused_journey` meets its contract: the uids are zeros.
-use borrow.Author.Rules.{rules}
 use Rattle.forward.proofs.refused_journey.Goals as goal
 
 pub returns : goal.returns

@@ -1,6 +1,4 @@
 -- `forward::refused_packet` meets its contract: it makes the tests in the order of refusals.
-use borrow.Author.Rules.{rules}
-use borrow.Author.Tests.{not-true, not-false}
 use Rattle.forward.proofs.CodeAsks.{refuses_uid, refuses_dst, refuses_proxy, refuses_retry, refuses_nothing}
 use Rattle.forward.proofs.refused_packet.Goals as goal
 

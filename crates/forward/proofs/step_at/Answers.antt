@@ -1,7 +1,6 @@
 -- `forward::step_at` meets its contract: lines 1 to 3 are its tests, and what goes on stands at the server.
 use mathlib.Core.Path.{◌≡◌, sym, ◌∙◌, ap}
 use Prim.Native.Nat.{ℕ}
-use borrow.Author.Rules.{rules}
 use Rattle.forward.specs.declared.Step.{Step}
 use Rattle.forward.specs.Packets.{drop_ttl, delivered, tidied, goal, ended}
 use Rattle.forward.specs.Seen.{seen}

@@ -1,5 +1,4 @@
 -- `forward::tidied` meets its contract: its one test is the definition's.
-use borrow.Author.Rules.{rules}
 use Rattle.forward.proofs.tidied.Goals as goal
 
 pub returns : goal.returns

@@ -2,7 +2,7 @@
 use native.Mathlib.Omega.{arith}
 use borrow.Author.Rules.{rules}
 use Rattle.counted.specs.Counted.{counted}
-use Rattle.forward.proofs.CodeTrips.{Underway, departs_counted, here_whole, sets_off, step_few, ttl_falls, ends_journey, goes_on_lem}
+use Rattle.forward.proofs.CodeTrips.{departs_counted, here_whole, sets_off, step_few, ttl_falls, ends_journey, goes_on_lem}
 use Rattle.forward.proofs.travel.Goals as goal
 
 pub loop-h-init : goal.loop-h-init

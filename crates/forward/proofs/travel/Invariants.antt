@@ -1,8 +1,6 @@
 -- `forward::travel` meets its contract: what is passed so far before what is left is the whole journey, and the TTL falls with each step.
-use native.Mathlib.Omega.{arith}
-use borrow.Author.Rules.{rules}
 use Rattle.counted.specs.Counted.{counted}
-use Rattle.forward.proofs.CodeTrips.{Underway, departs_counted, here_whole, sets_off, step_few, ttl_falls, ends_journey, goes_on_lem}
+use Rattle.forward.proofs.CodeTrips.{Underway}
 use Rattle.forward.proofs.travel.Given as goal
 
 abbrev pub invariant-loop-h : goal.invariant-loop-h

@@ -1,7 +1,6 @@
 -- `forward::turn` meets its contract: it goes by the link and by the choice as the definition does.
 use Rattle.forward.specs.Inside.{turn_of}
 use Rattle.forward.proofs.CodeSteps.{level_low, level_above, placed}
-use borrow.Author.Rules.{rules}
 use Rattle.forward.proofs.turn.Goals as goal
 
 pub first_level-requires : goal.first_level-requires

@@ -6,7 +6,6 @@ use Rattle.hall.proofs.Growth.{valid_known}
 use Rattle.local.specs.Local.{cell_size}
 use Rattle.local.proofs.Sizes.{cell_size_lem, size_pos}
 use Rattle.forward.proofs.CodeSteps.{first_of_lem, uid_fits_in}
-use borrow.Author.Rules.{rules}
 use Rattle.forward.proofs.uid_at.Goals.{After-size_of}
 use Rattle.forward.proofs.uid_at.Goals as goal
 

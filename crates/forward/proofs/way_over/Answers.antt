@@ -1,8 +1,7 @@
 -- `forward::way_over` meets its contract: it goes by the first link as the definition does.
-use borrow.Author.Tests.{not-true, not-false, eq-eqb, ne_eqb}
+use borrow.Author.Tests.{eq-eqb, ne_eqb}
 use Rattle.forward.specs.Inside.{way_over}
 use Rattle.forward.proofs.CodeWays.{target_goal, target_near, crossed, usable_near}
-use borrow.Author.Rules.{rules}
 use Rattle.forward.proofs.way_over.Goals as goal
 
 pub way_to-requires : goal.way_to-requires

@@ -1,6 +1,5 @@
 -- `forward::way_to` meets its contract: a next hop is found exactly where the target can be reached.
 use Rattle.forward.proofs.CodeWays.{hop_none, hop_some}
-use borrow.Author.Rules.{rules}
 use Rattle.forward.proofs.way_to.Goals as goal
 
 pub returns-then-hop-eq0 : goal.returns-then-hop-eq0

@@ -1,5 +1,5 @@
 -- `frame::header_place` meets its contract: version, DHL and flags alone tell a place, once the frame has 20 bytes.
-use Rattle.std.proofs.Common.{ap, ◌∙◌, rules}
+use Rattle.std.proofs.Common.{ap, ◌∙◌}
 use Rattle.frame.specs.Places.{place_of}
 use Rattle.frame.proofs.Places.{short_place, fields_place}
 use Rattle.frame.proofs.header_place.Goals as goal

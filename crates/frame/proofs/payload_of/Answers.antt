@@ -1,5 +1,5 @@
 -- `frame::payload_of` meets its contract: an accepted frame has the header and the payload that it states.
-use Rattle.std.proofs.Common.{◌≡◌, ℕ, ◌+◌, ◌-◌, ◌*◌, ◌/◌, ◌%◌, ◌≤◌, List, length, take, drop, sym, ◌∙◌, arith, length-drop, length-take-le, take-take, rules, eq-eqb, ne_eqb}
+use Rattle.std.proofs.Common.{◌≡◌, ℕ, ◌+◌, ◌-◌, ◌*◌, ◌/◌, ◌%◌, ◌≤◌, List, length, take, drop, sym, ◌∙◌, arith, length-drop, length-take-le, take-take, eq-eqb, ne_eqb}
 use Rattle.frame.specs.Layout.{word_at}
 use Rattle.frame.proofs.Frames.{accepted_sound}
 use Rattle.frame.proofs.Rows.{DHL_in, payload_in}

@@ -1,5 +1,5 @@
 -- `frame::read_frame` meets its contract: a refusal is answered with zeros, and an accepted frame by its fields.
-use Rattle.std.proofs.Common.{rules, eq-eqb, ne_eqb}
+use Rattle.std.proofs.Common.{eq-eqb, ne_eqb}
 use Rattle.frame.proofs.read_frame.Goals as goal
 
 pub returns-then-refused-ne0 : goal.returns-then-refused-ne0

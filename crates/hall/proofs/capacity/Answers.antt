@@ -4,7 +4,7 @@ use Prim.Native.Nat.{ℕ, zero, suc, ◌+◌, ◌*◌, ◌/◌, ◌≤◌}
 use native.Mathlib.Nat.{mul-le-mul}
 use native.Mathlib.Omega.{arith}
 use Rattle.hall.specs.Cells.{t}
-use Rattle.hall.specs.Halls.{most_n, top, Sized, racks, capacity}
+use Rattle.hall.specs.Halls.{top, Sized, racks, capacity}
 use Rattle.hall.proofs.Racks.{one_is, one_fits}
 use Rattle.hall.proofs.capacity.Goals as goal
 

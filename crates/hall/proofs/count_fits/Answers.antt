@@ -3,11 +3,10 @@ use mathlib.Core.Path.{◌≡◌}
 use mathlib.Core.Bool.{false}
 use Prim.Native.Nat.{ℕ, ◌+◌, ◌/◌, ◌≤◌, ◌<◌}
 use native.Mathlib.Omega.{arith}
-use lib.Dec.{eqb, leb, ltb}
-use borrow.Author.Rules.{rules}
-use borrow.Author.Tests.{le-leb, lt-leb, lt-ltb, le-ltb, eq-eqb, ne_eqb, leb-true, leb-false, ltb-true, ltb-false}
+use lib.Dec.{leb, ltb}
+use borrow.Author.Tests.{le-leb, lt-leb, lt-ltb, eq-eqb, ne_eqb, leb-true, leb-false, ltb-true, ltb-false}
 use Rattle.combine.proofs.Tests.{cases}
-use Rattle.hall.specs.Halls.{Sized, capacity, count_fits}
+use Rattle.hall.specs.Halls.{capacity, count_fits}
 use Rattle.hall.proofs.Racks.{capacity_low, capacity_small}
 use Rattle.hall.proofs.count_fits.Goals as goal
 

@@ -1,7 +1,5 @@
 -- `hall::is_valid` meets its contract: it asks of n, k, b and the count what the definition asks, in turn.
 use mathlib.Core.Path.{sym, ◌∙◌}
-use borrow.Author.Rules.{rules}
-use borrow.Author.Tests.{not-true, not-false}
 use Rattle.hall.specs.Halls.{valid}
 use Rattle.hall.proofs.Racks.{sized_fits}
 use Rattle.hall.proofs.is_valid.Goals as goal

@@ -1,7 +1,5 @@
 -- `hall::racks_of` meets its contract: it asks of n and k what the definition asks.
 use mathlib.Core.Path.{sym, ◌∙◌}
-use borrow.Author.Rules.{rules}
-use borrow.Author.Tests.{not-true, not-false}
 use Rattle.hall.specs.Answers.{racks_of}
 use Rattle.hall.proofs.Racks.{sized_fits}
 use Rattle.hall.proofs.racks_of.Goals as goal

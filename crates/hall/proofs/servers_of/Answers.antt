@@ -1,6 +1,4 @@
 -- `hall::servers_of` meets its contract: a valid hall has its sizes.
-use borrow.Author.Rules.{rules}
-use borrow.Author.Tests.{not-true, not-false}
 use mathlib.Core.Path.{sym, ◌∙◌}
 use Rattle.hall.specs.Halls.{servers}
 use Rattle.hall.proofs.Growth.{valid_known}

@@ -1,6 +1,5 @@
 -- `hall::size` meets its contract: after j rounds s is the size of level j.
 use mathlib.Core.Path.{◌≡◌, refl}
-use Prim.Native.Nat.{◌-◌, ◌≤◌}
 use native.Mathlib.Omega.{arith}
 use Rattle.hall.specs.Cells.{t}
 use Rattle.hall.proofs.Growth.{t_fits, t_next, next_fits}

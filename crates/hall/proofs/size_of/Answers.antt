@@ -1,6 +1,4 @@
 -- `hall::size_of` meets its contract: a valid hall has its sizes, up to level k.
-use borrow.Author.Rules.{rules}
-use borrow.Author.Tests.{not-true, not-false}
 use mathlib.Core.Path.{sym, ◌∙◌}
 use Rattle.hall.specs.Answers.{size_of}
 use Rattle.hall.proofs.Growth.{valid_known, sized_below, size_at_lem, size_above}

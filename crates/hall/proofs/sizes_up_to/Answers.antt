@@ -1,9 +1,9 @@
 -- `hall::sizes_up_to` meets its contract: the places below i hold their sizes, s is the next, and zeros stand behind.
 use mathlib.Core.Path.{◌≡◌, refl, sym, ◌∙◌, ap}
-use mathlib.Core.List.{List, ◌++◌}
-use Prim.Native.Nat.{ℕ, ◌+◌, ◌-◌, ◌≤◌}
+use mathlib.Core.List.{List}
+use Prim.Native.Nat.{ℕ, ◌+◌, ◌≤◌}
 use native.Mathlib.Omega.{arith}
-use lib.ListN.{length, drop, replicate, set}
+use lib.ListN.{length, replicate, set}
 use Rattle.combine.specs.Lists.{up_to}
 use Rattle.combine.proofs.Lists.{up_more, up_zeros, length_up}
 use Rattle.hall.specs.Cells.{t}

@@ -1,15 +1,12 @@
 -- `hall::sizes_up_to` meets its contract: the places below i hold their sizes, s is the next, and zeros stand behind.
-use mathlib.Core.Path.{◌≡◌, refl, sym, ◌∙◌, ap}
+use mathlib.Core.Path.{◌≡◌}
 use mathlib.Core.List.{List, ◌++◌}
-use Prim.Native.Nat.{ℕ, ◌+◌, ◌-◌, ◌≤◌}
-use native.Mathlib.Omega.{arith}
-use lib.ListN.{length, drop, replicate, set}
+use Prim.Native.Nat.{ℕ, ◌-◌, ◌≤◌}
+use lib.ListN.{drop, replicate}
 use Rattle.combine.specs.Lists.{up_to}
-use Rattle.combine.proofs.Lists.{up_more, up_zeros, length_up}
 use Rattle.hall.specs.Cells.{t}
-use Rattle.hall.specs.Halls.{top, places}
+use Rattle.hall.specs.Halls.{places}
 use Rattle.hall.specs.Answers.{size_at}
-use Rattle.hall.proofs.Growth.{t_fits, t_next, next_fits, size_at_lem, size_above}
 use Rattle.hall.proofs.sizes_up_to.Given as goal
 
 -- the places below i are filled

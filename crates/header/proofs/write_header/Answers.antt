@@ -1,10 +1,8 @@
 -- `header::write_header` meets its contract: it asks in the order of the definition, and writes only once nothing is refused.
 use mathlib.Core.Path.{sym, ◌∙◌}
 use native.Mathlib.Omega.{arith}
-use borrow.Author.Tests.{not-true, not-false}
 use Rattle.frame.proofs.Rows.{words_fit}
 use Rattle.header.proofs.Written.{write_retry, write_address, write_short, write_done}
-use borrow.Author.Rules.{rules}
 use Rattle.header.proofs.write_header.Goals as goal
 
 pub returns-then-fields-gt-MOST_RETRY : goal.returns-then-fields-gt-MOST_RETRY

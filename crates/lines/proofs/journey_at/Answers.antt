@@ -1,5 +1,4 @@
 -- `lines::journey_at` meets its contract: the journey of the packet's fields over the sheet's codes.
-use borrow.Author.Rules.{rules}
 use Rattle.lines.specs.Traces.{journey_at}
 use Rattle.lines.proofs.journey_at.Goals as goal
 

@@ -1,7 +1,6 @@
 -- `lines::journey_line` meets its contract: refused in order, or the line of the packet's journey.
 use mathlib.Core.Path.{sym, ◌∙◌, ap}
 use native.Mathlib.Omega.{arith}
-use borrow.Author.Rules.{rules}
 use Rattle.forward.specs.declared.Journey.{Journey}
 use Rattle.lines.proofs.Journeys.{refused_sheet, refused_range, refused_journey_lem, text_told, line_refused, line_told}
 use Rattle.lines.proofs.journey_line.Goals as goal

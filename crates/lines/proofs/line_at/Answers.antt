@@ -4,7 +4,6 @@ use Prim.Native.Nat.{ℕ}
 use native.Mathlib.Omega.{arith}
 use Rattle.lines.specs.Traces.{line_text}
 use Rattle.lines.proofs.Lines.{line_first, line_journey, line_end}
-use borrow.Author.Rules.{rules}
 use Rattle.lines.proofs.line_at.Goals as goal
 
 pub returns-then-i-eq0 : goal.returns-then-i-eq0

@@ -1,5 +1,4 @@
 -- `lines::opening_line` meets its contract: the refusal's line, or the hall's.
-use borrow.Author.Rules.{rules}
 use Rattle.lines.proofs.Openings.{opening_refused, opening_hall}
 use Rattle.lines.proofs.opening_line.Goals as goal
 

@@ -2,8 +2,7 @@
 use mathlib.Core.Path.{◌∙◌}
 use Prim.Native.Nat.{◌-◌}
 use native.Mathlib.Omega.{arith}
-use Rattle.lines.proofs.Pieces.{Underway, starts, kept, goes_on, ends_full, ends_last}
-use borrow.Author.Rules.{rules}
+use Rattle.lines.proofs.Pieces.{starts, kept, goes_on, ends_full, ends_last}
 use Rattle.lines.proofs.put_lines.Goals as goal
 
 pub loop-next-init : goal.loop-next-init

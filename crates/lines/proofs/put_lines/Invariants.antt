@@ -1,9 +1,6 @@
 -- `lines::put_lines` meets its contract: after each turn some of the lines stand in the room, and those that fit are these and those that fit behind them.
-use mathlib.Core.Path.{◌∙◌}
 use Prim.Native.Nat.{◌-◌}
-use native.Mathlib.Omega.{arith}
-use Rattle.lines.proofs.Pieces.{Underway, starts, kept, goes_on, ends_full, ends_last}
-use borrow.Author.Rules.{rules}
+use Rattle.lines.proofs.Pieces.{Underway}
 use Rattle.lines.proofs.put_lines.Given as goal
 
 abbrev pub invariant-loop-next : goal.invariant-loop-next

@@ -1,6 +1,5 @@
 -- `lines::told_at` meets its contract: the line of the packet and its journey.
 use Rattle.lines.proofs.Journeys.{text_told}
-use borrow.Author.Rules.{rules}
 use Rattle.lines.proofs.told_at.Goals as goal
 
 pub returns : goal.returns

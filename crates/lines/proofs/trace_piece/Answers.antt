@@ -3,7 +3,6 @@ use mathlib.Core.Path.{sym, ◌∙◌, ap}
 use native.Mathlib.Omega.{arith}
 use Rattle.sheet.specs.declared.Sheet.{Sheet}
 use Rattle.lines.proofs.Pieces.{few_packets, piece_range, piece_short, piece_written}
-use borrow.Author.Rules.{rules}
 use Rattle.lines.proofs.trace_piece.Goals as goal
 
 pub line_count-count-requires : goal.line_count-count-requires

@@ -1,6 +1,4 @@
 -- `local::both_up` meets its contract: one port that is not up is enough to refuse.
-use borrow.Author.Rules.{rules}
-use borrow.Author.Tests.{not-true, not-false}
 use Rattle.ports.specs.Links.{both_up}
 use Rattle.local.proofs.both_up.Goals as goal
 

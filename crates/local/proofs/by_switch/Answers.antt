@@ -2,7 +2,6 @@
 use mathlib.Core.Path.{ap}
 use mathlib.Core.Bool.{not}
 use mathlib.Core.Path.{◌∙◌}
-use borrow.Author.Rules.{rules}
 use Rattle.ports.specs.Codes.{up}
 use Rattle.local.proofs.Rounds.{live_decides, live_leaves}
 use Rattle.local.proofs.by_switch.Goals as goal

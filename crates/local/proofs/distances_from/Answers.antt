@@ -1,13 +1,10 @@
 -- `local::distances_from` meets its contract. The loop's invariant: the record holds the marks before round r, and none behind the cell.
 use mathlib.Core.Path.{◌≡◌, ◌∙◌, sym, ap}
-use mathlib.Core.List.{List, ◌++◌}
-use Prim.Native.Nat.{ℕ, ◌≤◌, ◌-◌}
+use mathlib.Core.List.{List}
+use Prim.Native.Nat.{ℕ, ◌-◌}
 use native.Mathlib.Omega.{arith}
-use borrow.Author.Rules.{rules}
-use borrow.Author.Tests.{not-true}
 use lib.ListN.{set, replicate}
 use Rattle.hall.proofs.Growth.{valid_known}
-use Rattle.search.specs.Rounds.{marks}
 use Rattle.search.proofs.Loop.{loop_more}
 use Rattle.local.specs.Local.{places, none, cell_size, linked}
 use Rattle.local.proofs.Sizes.{cell_size_lem, size_fits}

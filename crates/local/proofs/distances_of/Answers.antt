@@ -2,7 +2,6 @@
 use mathlib.Core.Path.{◌≡◌, sym, ◌∙◌}
 use mathlib.Core.Bool.{true}
 use native.Mathlib.Omega.{arith}
-use borrow.Author.Rules.{rules}
 use Rattle.hall.proofs.Growth.{valid_known}
 use Rattle.hall.specs.Halls.{valid}
 use Rattle.local.specs.Local.{cell_size}

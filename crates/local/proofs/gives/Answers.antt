@@ -1,6 +1,4 @@
 -- `local::gives` meets its contract: a server that is not reached before the round gives nothing, else its port 0 decides.
-use borrow.Author.Rules.{rules}
-use borrow.Author.Tests.{not-true, not-false}
 use Rattle.local.proofs.gives.Goals as goal
 
 pub returns-then-not-is_reached : goal.returns-then-not-is_reached

@@ -2,7 +2,6 @@
 -- and the search decides.
 use mathlib.Core.Path.{sym, ◌∙◌}
 use mathlib.Core.Logic.{inl}
-use borrow.Author.Rules.{rules}
 use Rattle.hall.proofs.Growth.{valid_known}
 use Rattle.local.proofs.Sizes.{cell_size_lem, size_switch}
 use Rattle.local.proofs.Hops.{hop_none}

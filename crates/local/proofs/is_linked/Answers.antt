@@ -1,7 +1,6 @@
 -- `local::is_linked` meets its contract: on one switch its ports decide, else the link of level 1 where there is one.
 use mathlib.Core.Path.{sym, ◌∙◌}
 use native.Mathlib.Omega.{arith}
-use borrow.Author.Rules.{rules}
 use Rattle.hall.proofs.Growth.{valid_known}
 use Rattle.local.proofs.Linked.{linked_switch, linked_none, linked_other, linked_over}
 use Rattle.local.proofs.Beside.{switch_low, place_in, across_is}

@@ -1,7 +1,7 @@
 -- `local::is_live` meets its contract. The loop's invariant: none of the servers passed gives.
 use mathlib.Core.Path.{◌≡◌, ◌∙◌, sym, ap}
 use mathlib.Core.Bool.{false}
-use Prim.Native.Nat.{ℕ, ◌≤◌, ◌-◌, ◌+◌, ◌*◌}
+use Prim.Native.Nat.{ℕ, ◌-◌, ◌+◌, ◌*◌}
 use native.Mathlib.Omega.{arith}
 use Rattle.combine.specs.Tests.{both, any_below}
 use Rattle.combine.proofs.Tests.{any_none, any_more, any_in}

@@ -1,12 +1,9 @@
 -- `local::is_live` meets its contract. The loop's invariant: none of the servers passed gives.
-use mathlib.Core.Path.{◌≡◌, ◌∙◌, sym, ap}
+use mathlib.Core.Path.{◌≡◌}
 use mathlib.Core.Bool.{false}
 use Prim.Native.Nat.{ℕ, ◌≤◌, ◌-◌, ◌+◌, ◌*◌}
-use native.Mathlib.Omega.{arith}
 use Rattle.combine.specs.Tests.{both, any_below}
-use Rattle.combine.proofs.Tests.{any_none, any_more, any_in}
 use Rattle.ports.specs.Codes.{up}
-use Rattle.ports.specs.Links.{switch_has}
 use Rattle.local.specs.Looks.{reached_by}
 use Rattle.local.proofs.is_live.Given as goal
 

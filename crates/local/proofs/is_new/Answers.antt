@@ -1,6 +1,5 @@
 -- `local::is_new` meets its contract: a place that has its distance is not new, else its live switch and its neighbour of level 1 decide.
 use native.Mathlib.Omega.{arith}
-use borrow.Author.Rules.{rules}
 use Rattle.hall.proofs.Growth.{valid_known}
 use Rattle.local.proofs.Sizes.{size_fits, switch_fits, neighbour_fits}
 use Rattle.local.proofs.Rounds.{new_marked, new_live, new_apart, new_linked}

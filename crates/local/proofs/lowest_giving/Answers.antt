@@ -1,6 +1,6 @@
 -- `local::lowest_giving` meets its contract. The loop's invariant: what is left of the look for the lowest is the whole look.
 use mathlib.Core.Path.{◌≡◌, sym, ◌∙◌, ap}
-use Prim.Native.Nat.{ℕ, ◌≤◌, ◌-◌}
+use Prim.Native.Nat.{ℕ, ◌-◌}
 use native.Mathlib.Omega.{arith}
 use Rattle.local.specs.Lowest.{lowest_from}
 use Rattle.local.specs.Looks.{gives_by}

@@ -1,10 +1,8 @@
 -- `local::lowest_giving` meets its contract. The loop's invariant: what is left of the look for the lowest is the whole look.
-use mathlib.Core.Path.{◌≡◌, sym, ◌∙◌, ap}
-use Prim.Native.Nat.{ℕ, ◌≤◌, ◌-◌}
-use native.Mathlib.Omega.{arith}
+use mathlib.Core.Path.{◌≡◌}
+use Prim.Native.Nat.{◌≤◌, ◌-◌}
 use Rattle.local.specs.Lowest.{lowest_from}
 use Rattle.local.specs.Looks.{gives_by}
-use Rattle.local.proofs.Lowest.{lowest_here, lowest_next, lowest_end}
 use Rattle.local.proofs.lowest_giving.Given as goal
 
 abbrev pub invariant-loop-z : goal.invariant-loop-z

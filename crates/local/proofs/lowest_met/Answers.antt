@@ -1,5 +1,4 @@
 -- `local::lowest_met` meets its contract: who meets x is on its switch or across its link of level 1, and the lower find counts.
-use borrow.Author.Rules.{rules}
 use Rattle.hall.proofs.Growth.{valid_known}
 use Rattle.local.specs.Local.{cell_size}
 use Rattle.local.specs.Looks.{met_by, beside_by, across_by}

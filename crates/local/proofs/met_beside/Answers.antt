@@ -1,8 +1,6 @@
 -- `local::met_beside` meets its contract: with port 0 of x down nobody on its switch meets it, else the lowest that gives does.
 use mathlib.Core.Path.{sym, ◌∙◌}
 use native.Mathlib.Omega.{arith}
-use borrow.Author.Rules.{rules}
-use borrow.Author.Tests.{not-true, not-false}
 use Rattle.hall.proofs.Growth.{valid_known}
 use Rattle.local.proofs.Sizes.{size_fits}
 use Rattle.local.proofs.Beside.{switch_whole, beside_down, beside_found, beside_missing}

@@ -2,7 +2,6 @@
 use mathlib.Core.Path.{sym}
 use Prim.Native.Nat.{◌+◌}
 use native.Mathlib.Omega.{arith}
-use borrow.Author.Rules.{rules}
 use Rattle.local.proofs.Sizes.{small_product, neighbour_low, neighbour_high}
 use Rattle.local.proofs.neighbour_place.Goals as goal
 

@@ -1,7 +1,6 @@
 -- `local::next_hop` meets its contract: what is refused has no hop, nor has another cell; else the hop's place decides.
 use mathlib.Core.Path.{◌≡◌}
 use native.Mathlib.Omega.{arith}
-use borrow.Author.Rules.{rules}
 use Rattle.hall.proofs.Growth.{valid_known}
 use Rattle.local.specs.Local.{cell_size}
 use Rattle.local.proofs.Sizes.{cell_size_lem, size_pos, place_under}

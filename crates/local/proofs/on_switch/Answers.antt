@@ -1,5 +1,4 @@
 -- `local::on_switch` meets its contract: a server is not joined to itself, and two are on one switch where their DCell0s are one.
-use borrow.Author.Rules.{rules}
 use Rattle.local.proofs.Linked.{switch_self, switch_cells}
 use Rattle.local.proofs.on_switch.Goals as goal
 

@@ -1,17 +1,14 @@
 -- `local::one_round` meets its contract. The outer loop's invariant: the distances are filled up to the switch s; the inner loop's: those that
 -- it found are filled up to server i of that switch, whose flag stays right as what is written reads as not reached.
 use mathlib.Core.Path.{◌≡◌, ◌∙◌, sym, ap}
-use mathlib.Core.Logic.{⊎_elim}
 use Prim.Native.Nat.{ℕ, ◌+◌, ◌*◌, ◌≤◌, ◌<◌, ◌-◌}
 use native.Mathlib.Omega.{arith}
 use lib.ListN.{length}
-use Rattle.combine.specs.Tests.{either, any_below}
+use Rattle.combine.specs.Tests.{any_below}
 use Rattle.hall.proofs.Growth.{valid_known}
-use Rattle.ports.specs.Links.{switch_has}
 use Rattle.search.specs.Rounds.{new}
 use Rattle.search.proofs.InPlace.{filled, fill_new, fill_old, any_new, any_old}
 use Rattle.local.specs.Local.{none, cell_size, linked}
-use Rattle.local.specs.Looks.{reached_by}
 use Rattle.local.proofs.Sizes.{size_fits, switch_below, place_below}
 use Rattle.local.proofs.Rounds.{round_starts, round_starts_any, filled_length, live_on, switch_starts, switch_starts_any, switch_ends, switch_ends_any}
 use Rattle.local.proofs.one_round.Goals.{then-is_new, else-is_new}

@@ -1,6 +1,4 @@
 -- `local::over_link` meets its contract: a neighbour that is not reached before the round gives nothing, else its link's ports decide.
-use borrow.Author.Rules.{rules}
-use borrow.Author.Tests.{not-true, not-false}
 use Rattle.local.proofs.over_link.Goals as goal
 
 pub returns-then-not-is_reached : goal.returns-then-not-is_reached

@@ -1,7 +1,6 @@
 -- `local::refused_among` meets its contract: a hall without servers is none, and each return has the tests that decide its number.
 use mathlib.Core.Path.{◌≡◌, sym, ◌∙◌}
 use native.Mathlib.Omega.{arith}
-use borrow.Author.Rules.{rules}
 use Rattle.hall.proofs.Growth.{no_servers, some_servers, valid_servers}
 use Rattle.local.specs.Local.{cell_size}
 use Rattle.local.proofs.Sizes.{cell_size_lem}

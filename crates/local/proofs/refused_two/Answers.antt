@@ -1,5 +1,4 @@
 -- `local::refused_two` meets its contract: what is refused of the first uid is refused, else the second decides.
-use borrow.Author.Rules.{rules}
 use Rattle.local.proofs.Asks.{refuses_first, refuses_second, refuses_neither}
 use Rattle.local.proofs.refused_two.Goals as goal
 

@@ -1,16 +1,11 @@
 -- `local::searched_hop` meets its contract. The loop's invariant: the record holds the marks before round r, none behind the cell, and round r
 -- does not reach x.
 use mathlib.Core.Path.{◌≡◌, ◌∙◌, sym, ap}
-use mathlib.Core.Bool.{false}
-use mathlib.Core.List.{List, ◌++◌}
-use Prim.Native.Nat.{ℕ, suc, ◌≤◌, ◌+◌, ◌-◌}
+use mathlib.Core.List.{List}
+use Prim.Native.Nat.{ℕ, ◌+◌, ◌-◌}
 use native.Mathlib.Omega.{arith}
-use borrow.Author.Rules.{rules}
-use borrow.Author.Tests.{not-true}
 use lib.ListN.{set, replicate}
 use Rattle.hall.proofs.Growth.{valid_known}
-use Rattle.search.specs.Rounds.{marks}
-use Rattle.search.specs.Reach.{reach}
 use Rattle.search.proofs.Loop.{loop_more}
 use Rattle.local.specs.Local.{places, none, cell_size, linked}
 use Rattle.local.proofs.Sizes.{cell_size_lem, size_fits}

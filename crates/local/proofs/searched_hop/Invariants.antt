@@ -1,21 +1,13 @@
 -- `local::searched_hop` meets its contract. The loop's invariant: the record holds the marks before round r, none behind the cell, and round r
 -- does not reach x.
-use mathlib.Core.Path.{◌≡◌, ◌∙◌, sym, ap}
+use mathlib.Core.Path.{◌≡◌}
 use mathlib.Core.Bool.{false}
-use mathlib.Core.List.{List, ◌++◌}
-use Prim.Native.Nat.{ℕ, suc, ◌≤◌, ◌+◌, ◌-◌}
-use native.Mathlib.Omega.{arith}
-use borrow.Author.Rules.{rules}
-use borrow.Author.Tests.{not-true}
-use lib.ListN.{set, replicate}
-use Rattle.hall.proofs.Growth.{valid_known}
+use mathlib.Core.List.{◌++◌}
+use Prim.Native.Nat.{suc, ◌≤◌, ◌+◌, ◌-◌}
+use lib.ListN.{replicate}
 use Rattle.search.specs.Rounds.{marks}
 use Rattle.search.specs.Reach.{reach}
-use Rattle.search.proofs.Loop.{loop_more}
 use Rattle.local.specs.Local.{places, none, cell_size, linked}
-use Rattle.local.proofs.Sizes.{cell_size_lem, size_fits}
-use Rattle.local.proofs.Rounds.{record_start, record_length}
-use Rattle.local.proofs.Meets.{starts_unmet, unmet_next, unmet_before, unmet_reads, hop_full, hop_idle, hop_met, still_unmet}
 use Rattle.local.proofs.searched_hop.Given as goal
 
 abbrev pub invariant-loop-rounds : goal.invariant-loop-rounds

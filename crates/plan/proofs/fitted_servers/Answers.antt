@@ -1,6 +1,5 @@
 -- `plan::fitted_servers` meets its contract: the DCell2 around a server has t(1) + 1 DCell1s, all of the hall.
-use borrow.Author.Rules.{rules}
-use Prim.Native.Nat.{◌+◌, ◌*◌, ◌-◌, ◌≤◌}
+use Prim.Native.Nat.{◌+◌, ◌*◌, ◌≤◌}
 use native.Mathlib.Nat.{mul-le-mul_right}
 use native.Mathlib.Omega.{arith}
 use Rattle.hall.proofs.Racks.{one_is}

@@ -2,7 +2,6 @@
 -- rank of the server's DCell1.
 use mathlib.Core.Path.{◌≡◌}
 use mathlib.Core.Bool.{true}
-use borrow.Author.Rules.{rules}
 use Rattle.hall.specs.Halls.{valid}
 use Rattle.hall.proofs.Growth.{valid_known}
 use Rattle.plan.proofs.Asks.{no_hall, some_hall, count_servers, first_decides}

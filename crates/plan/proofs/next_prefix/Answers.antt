@@ -1,5 +1,4 @@
 -- `plan::next_prefix` meets its contract: where nothing is refused, k is at least 2, and the level is one less.
-use borrow.Author.Rules.{rules}
 use mathlib.Core.Path.{◌≡◌, sym, ◌∙◌}
 use mathlib.Core.List.{List}
 use Prim.Native.Nat.{ℕ, ◌+◌, ◌-◌}

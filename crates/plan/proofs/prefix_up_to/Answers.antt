@@ -3,10 +3,9 @@ use mathlib.Core.Path.{◌≡◌, refl, ◌∙◌, ap}
 use mathlib.Core.List.{List}
 use Prim.Native.Nat.{ℕ, zero, suc, ◌+◌, ◌*◌, ◌-◌, ◌≤◌, ◌<◌}
 use native.Mathlib.Omega.{arith}
-use lib.ListN.{length, set, replicate, length-set}
+use lib.ListN.{set, replicate, length-set}
 use Rattle.combine.specs.Lists.{up_to}
 use Rattle.hall.specs.Cells.{t}
-use borrow.Author.Rules.{rules}
 use Rattle.hall.specs.Halls.{top, places, Sized, racks, capacity}
 use Rattle.hall.specs.Answers.{racks_of}
 use Rattle.hall.proofs.Growth.{sized_below}
@@ -16,7 +15,6 @@ use Rattle.hall.proofs.Racks.{racks_known}
 use Rattle.plan.proofs.Asks.{sized_known}
 use Rattle.plan.proofs.Filled.{filled, filled_all}
 use Rattle.hall.proofs.Racks.{fit, one_fits, one_is}
-use Rattle.plan.proofs.prefix_up_to.Invariants.{Made}
 use Rattle.plan.proofs.prefix_up_to.Goals as goal
 
 -- the DCell1s of a sub-cell, as the code asks for them

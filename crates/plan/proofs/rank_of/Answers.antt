@@ -1,7 +1,7 @@
 -- `plan::rank_of` meets its contract: after j turns s is t(j + 1), what is left of the uid is the number of its DCell of level j + 1, r the
 -- DCell1s of such a DCell, and c the rank within it.
 use mathlib.Core.Path.{◌≡◌, refl, ◌∙◌}
-use Prim.Native.Nat.{ℕ, suc, ◌+◌, ◌*◌, ◌-◌, ◌/◌, ◌%◌, ◌≤◌, ◌<◌}
+use Prim.Native.Nat.{ℕ, suc, ◌+◌, ◌*◌, ◌/◌, ◌%◌, ◌≤◌, ◌<◌}
 use native.Mathlib.Numerals.{add-one}
 use native.Mathlib.Omega.{arith}
 use Rattle.hall.specs.Cells.{t, cell, sub}

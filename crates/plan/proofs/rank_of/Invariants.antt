@@ -1,15 +1,10 @@
 -- `plan::rank_of` meets its contract: after j turns s is t(j + 1), what is left of the uid is the number of its DCell of level j + 1, r the
 -- DCell1s of such a DCell, and c the rank within it.
-use mathlib.Core.Path.{◌≡◌, refl, ◌∙◌}
-use Prim.Native.Nat.{ℕ, suc, ◌+◌, ◌*◌, ◌-◌, ◌/◌, ◌%◌, ◌≤◌, ◌<◌}
-use native.Mathlib.Numerals.{add-one}
-use native.Mathlib.Omega.{arith}
-use Rattle.hall.specs.Cells.{t, cell, sub}
-use Rattle.hall.proofs.Cells.{cell_up, cell_sub}
-use Rattle.hall.specs.Halls.{largest, Sized, racks}
-use Rattle.plan.specs.Plan.{before, rank, prefix_of}
-use Rattle.hall.proofs.Racks.{Fit, fit, one_fits}
-use Rattle.plan.proofs.Sizes.{sub_racks, rank_below}
+use mathlib.Core.Path.{◌≡◌}
+use Prim.Native.Nat.{ℕ, suc, ◌+◌, ◌-◌, ◌≤◌}
+use Rattle.hall.specs.Cells.{t, cell}
+use Rattle.hall.specs.Halls.{racks}
+use Rattle.plan.specs.Plan.{rank, prefix_of}
 use Rattle.plan.proofs.rank_of.Given as goal
 
 -- what j turns have made

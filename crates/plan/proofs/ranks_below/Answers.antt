@@ -1,5 +1,4 @@
 -- `plan::ranks_below` meets its contract: a server is fitted where the rank of its DCell1 is below the count.
-use borrow.Author.Rules.{rules}
 use native.Mathlib.Omega.{arith}
 use Rattle.hall.proofs.Growth.{valid_known, sized_below}
 use Rattle.plan.proofs.Asks.{none_fitted, fitted_low, fitted_rank}

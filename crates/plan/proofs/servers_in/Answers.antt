@@ -1,5 +1,4 @@
 -- `plan::servers_in` meets its contract: t(1) is (n + 1) × n.
-use Prim.Native.Nat.{◌*◌}
 use native.Mathlib.Omega.{arith}
 use Rattle.hall.proofs.Racks.{one_is, one_fits}
 use Rattle.plan.proofs.servers_in.Goals as goal

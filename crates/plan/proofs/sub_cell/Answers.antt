@@ -1,8 +1,6 @@
 -- `plan::sub_cell` meets its contract: the three phases of the planner are the three branches.
 use mathlib.Core.Path.{sym}
-use Prim.Native.Nat.{◌-◌}
 use native.Mathlib.Omega.{arith}
-use borrow.Author.Rules.{rules}
 use Rattle.plan.proofs.Index.{low, mid, high, two}
 use Rattle.plan.proofs.sub_cell.Goals as goal
 

@@ -1,12 +1,9 @@
 -- `ports::all_known_lem` meets its contract: all codes are known exactly where the highest so far is, and each of what is left.
-use mathlib.Core.Path.{◌≡◌, sym, ◌∙◌}
+use mathlib.Core.Path.{◌≡◌}
 use Prim.Native.Nat.{◌-◌}
-use native.Mathlib.Omega.{arith}
 use lib.ListN.{length, drop}
-use borrow.Author.Rules.{rules}
 use Rattle.combine.specs.Tests.{both}
 use Rattle.ports.specs.Codes.{known, all_known}
-use Rattle.ports.proofs.Tables.{known_start, known_next, known_end}
 use Rattle.ports.proofs.all_known.Given as goal
 
 abbrev pub invariant-loop-i : goal.invariant-loop-i

@@ -1,6 +1,5 @@
 -- `ports::bytes_of` meets its contract: two 32-bit numbers have a product that fits.
 use native.Mathlib.Omega.{arith}
-use borrow.Author.Rules.{rules}
 use Rattle.ports.proofs.Parts.{product_fits}
 use Rattle.ports.proofs.bytes_of.Goals as goal
 

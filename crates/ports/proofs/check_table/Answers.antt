@@ -1,7 +1,6 @@
 -- `ports::check_table` meets its contract: a hall without servers is none, and each return has the tests that decide its answer.
 use mathlib.Core.Path.{sym, ◌∙◌}
 use native.Mathlib.Omega.{arith}
-use borrow.Author.Rules.{rules}
 use Rattle.hall.proofs.Growth.{no_servers, some_servers}
 use Rattle.ports.proofs.Parts.{bytes_are, table_fits, check_hall, check_length, check_code, check_good}
 use Rattle.ports.proofs.check_table.Goals as goal

@@ -1,11 +1,5 @@
 -- `ports::first_unknown` meets its contract: what is passed is known, so the first unknown of what is left is the table's.
-use mathlib.Core.Path.{◌≡◌, sym, ◌∙◌}
-use Prim.Native.Nat.{◌+◌, ◌-◌}
-use native.Mathlib.Omega.{arith}
-use lib.ListN.{length, drop}
-use borrow.Author.Rules.{rules}
-use borrow.Author.Tests.{not-true, not-false}
-use Rattle.ports.specs.Codes.{first_unknown}
+use mathlib.Core.Path.{sym, ◌∙◌}
 use Rattle.ports.proofs.Tables.{unknown_next, unknown_here, unknown_end}
 use Rattle.ports.proofs.first_unknown.Goals as goal
 

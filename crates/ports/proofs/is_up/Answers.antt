@@ -1,7 +1,6 @@
 -- `ports::is_up` meets its contract: a port above k is none, the index is the definition's and fits, and a byte that the table has not is no port.
 use native.Mathlib.Omega.{arith}
 use lib.ListN.{get_or-eq_default}
-use borrow.Author.Rules.{rules}
 use borrow.Author.Tests.{le-leb, lt-leb}
 use Prim.Native.Nat.{ℕ}
 use Rattle.ports.specs.Codes.{code_of, up}

@@ -1,12 +1,8 @@
 -- `ports::known_blocks` meets its contract: a block that is passed has known codes alone, so the first unknown of what is left is the table's.
-use mathlib.Core.Path.{◌≡◌, sym, ◌∙◌}
+use mathlib.Core.Path.{◌≡◌}
 use Prim.Native.Nat.{◌+◌, ◌-◌}
-use native.Mathlib.Omega.{arith}
 use lib.ListN.{length, drop}
-use borrow.Author.Rules.{rules}
-use borrow.Author.Tests.{not-false}
 use Rattle.ports.specs.Codes.{first_unknown}
-use Rattle.ports.proofs.Tables.{unknown_start, unknown_block}
 use Rattle.ports.proofs.known_blocks.Given as goal
 
 abbrev pub invariant-loop-from : goal.invariant-loop-from

@@ -2,7 +2,6 @@
 use mathlib.Core.Path.{◌≡◌, sym, ◌∙◌}
 use native.Mathlib.Nat.{div-le_self}
 use native.Mathlib.Omega.{arith}
-use borrow.Author.Rules.{rules}
 use Rattle.hall.specs.Cells.{t}
 use Rattle.hall.proofs.Growth.{valid_known, size_of_lem}
 use Rattle.ports.proofs.Parts.{sound, part_empty, part_counts, part_within, part_is}

@@ -1,6 +1,5 @@
 -- `ports::part_refusal` meets its contract: a hall without servers is none, and each return has the tests that decide its number.
 use mathlib.Core.Path.{sym, ◌∙◌}
-use borrow.Author.Rules.{rules}
 use Rattle.hall.proofs.Growth.{no_servers, some_servers, valid_servers}
 use Rattle.ports.proofs.Parts.{bytes_are, part_hall, part_length, part_uid, part_good}
 use Rattle.ports.proofs.part_refusal.Goals as goal

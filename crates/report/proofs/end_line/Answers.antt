@@ -3,7 +3,6 @@ use mathlib.Core.Path.{◌∙◌}
 use Prim.Native.Nat.{◌+◌, ◌≤◌}
 use native.Mathlib.Omega.{arith}
 use lib.ListN.{length}
-use borrow.Author.Rules.{rules}
 use borrow.Author.Tests.{not-true, not-false}
 use Rattle.report.specs.Texts.{newline, word_end, number_with, end_line}
 use Rattle.report.proofs.Rooms.{put_next, by_length, line_short, line_written, line_fits}

@@ -4,7 +4,6 @@ use mathlib.Core.List.{◌++◌}
 use Prim.Native.Nat.{◌+◌, ◌≤◌}
 use native.Mathlib.Omega.{arith}
 use lib.ListN.{length}
-use borrow.Author.Rules.{rules}
 use borrow.Author.Tests.{not-true, not-false}
 use Rattle.report.specs.Texts.{space, newline, word_hall, number_with, hall_line}
 use Rattle.report.proofs.Rooms.{put_next, by_length, line_short, line_written, line_fits}

@@ -1,11 +1,9 @@
 -- `rooms::put` meets its contract: the words below i stand in the room, and the room behind them is as it was.
 use mathlib.Core.Path.{◌≡◌, refl, ◌∙◌}
-use Prim.Native.Nat.{◌-◌, ◌≤◌}
 use native.Mathlib.Omega.{arith}
-use borrow.Author.Rules.{rules}
 use lib.ListN.{length, length-set}
 use lib.Seq.{take_all}
-use Rattle.hall.proofs.Told.{Put, put_more}
+use Rattle.hall.proofs.Told.{put_more}
 use Rattle.rooms.proofs.put.Goals as goal
 
 pub loop-i-init : goal.loop-i-init

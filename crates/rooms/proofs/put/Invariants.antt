@@ -1,11 +1,8 @@
 -- `rooms::put` meets its contract: the words below i stand in the room, and the room behind them is as it was.
-use mathlib.Core.Path.{◌≡◌, refl, ◌∙◌}
+use mathlib.Core.Path.{◌≡◌}
 use Prim.Native.Nat.{◌-◌, ◌≤◌}
-use native.Mathlib.Omega.{arith}
-use borrow.Author.Rules.{rules}
-use lib.ListN.{length, length-set}
-use lib.Seq.{take_all}
-use Rattle.hall.proofs.Told.{Put, put_more}
+use lib.ListN.{length}
+use Rattle.hall.proofs.Told.{Put}
 use Rattle.rooms.proofs.put.Given as goal
 
 abbrev pub invariant-loop-i : goal.invariant-loop-i

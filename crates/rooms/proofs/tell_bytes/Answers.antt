@@ -1,6 +1,5 @@
 -- `rooms::tell_bytes` meets its contract, by the three ways in which an answer is told.
 use mathlib.Core.Path.{sym, ◌∙◌}
-use borrow.Author.Rules.{rules}
 use Rattle.hall.proofs.Told.{told_refused, told_short, told_good, written_refused, written_short, written_good}
 use Rattle.words.proofs.Rooms.{room_start}
 use Rattle.rooms.proofs.tell_bytes.Goals as goal

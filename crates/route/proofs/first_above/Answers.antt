@@ -6,7 +6,7 @@ use native.Mathlib.Nat.{div-mul-le_self}
 use native.Mathlib.Omega.{arith}
 use lib.ListN.{get_or}
 use Rattle.route.proofs.Inside.{size_pos}
-use Rattle.route.proofs.Search.{Search, search_starts, search_ends, search_same, search_apart, ends_fit, found_none, found_some}
+use Rattle.route.proofs.Search.{search_starts, search_ends, search_same, search_apart, ends_fit, found_none, found_some}
 use Rattle.route.proofs.first_above.Goals as goal
 
 pub loop-j-init : goal.loop-j-init

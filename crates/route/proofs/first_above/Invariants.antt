@@ -1,12 +1,6 @@
 -- `route::first_above` meets its contract. The invariant: what is found so far, or the first link above b to the goal so far, is the
 -- answer. The measure is the level.
-use mathlib.Core.Path.{◌∙◌}
-use Prim.Native.Nat.{◌-◌}
-use native.Mathlib.Nat.{div-mul-le_self}
-use native.Mathlib.Omega.{arith}
-use lib.ListN.{get_or}
-use Rattle.route.proofs.Inside.{size_pos}
-use Rattle.route.proofs.Search.{Search, search_starts, search_ends, search_same, search_apart, ends_fit, found_none, found_some}
+use Rattle.route.proofs.Search.{Search}
 use Rattle.route.proofs.first_above.Given as goal
 
 abbrev pub invariant-loop-j : goal.invariant-loop-j

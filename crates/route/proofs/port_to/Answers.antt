@@ -1,5 +1,4 @@
 -- `route::port_to` meets its contract: the definition's two ways.
-use borrow.Author.Rules.{rules}
 use mathlib.Core.Path.{sym}
 use Rattle.hall.proofs.Place.{port_lt, port_ge}
 use Rattle.route.proofs.port_to.Goals as goal

@@ -3,7 +3,6 @@ use Prim.Native.Nat.{◌+◌}
 use native.Mathlib.Omega.{arith}
 use lib.Dec.{eqb}
 use Rattle.route.proofs.Filling.{times_links, put_links}
-use borrow.Author.Rules.{rules}
 use Rattle.route.proofs.put.Goals as goal
 
 pub overflow_mul-uids : goal.overflow_mul-uids

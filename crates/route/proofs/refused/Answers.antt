@@ -1,5 +1,4 @@
 -- `route::refused` meets its contract: its places are the empty ones.
-use borrow.Author.Rules.{rules}
 use Rattle.route.proofs.refused.Goals as goal
 
 pub returns : goal.returns

@@ -3,7 +3,6 @@
 use mathlib.Core.Path.{◌∙◌, ap}
 use Prim.Native.Nat.{◌<◌}
 use native.Mathlib.Omega.{arith}
-use borrow.Author.Rules.{rules}
 use Rattle.hall.specs.Halls.{servers}
 use Rattle.hall.proofs.Growth.{sizes_refused}
 use Rattle.route.specs.Answers.{no_route}

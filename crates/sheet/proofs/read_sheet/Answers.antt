@@ -3,7 +3,6 @@ use mathlib.Core.Path.{sym, ◌∙◌}
 use Rattle.sheet.proofs.Sheets.{sheet_long, sheet_refused, sheet_surplus, sheet_accepted}
 use Rattle.sheet.specs.Sheets.{tables_of, night_sheet}
 use Rattle.sheet.proofs.Heads.{hall_read}
-use borrow.Author.Rules.{rules}
 use Rattle.sheet.proofs.read_sheet.Goals as goal
 
 pub returns-then-length-gt-LONGEST : goal.returns-then-length-gt-LONGEST

@@ -1,7 +1,6 @@
 -- `sheetparts::codes_of` meets its contract: the sheet's refusal decides, and then the part.
 use mathlib.Core.Path.{◌∙◌}
 use Rattle.sheetparts.proofs.Parts.{codes_refused, codes_answered}
-use borrow.Author.Rules.{rules}
 use Rattle.sheetparts.proofs.codes_of.Goals as goal
 
 pub returns-then-read-ne0 : goal.returns-then-read-ne0

@@ -1,6 +1,5 @@
 -- `sheetparts::codes_place` meets its contract: the first section has the bytes that the first count says, and each of the two counts 4.
 use Rattle.sheetparts.proofs.Parts.{place_part, place_full}
-use borrow.Author.Rules.{rules}
 use Rattle.sheetparts.proofs.codes_place.Goals as goal
 
 pub returns-then-word_at-eq-PART_SECTION : goal.returns-then-word_at-eq-PART_SECTION

@@ -1,7 +1,6 @@
 -- `sheetparts::packet_at` meets its contract: the sheet's refusal decides, then the number of packets, and then the bytes.
 use mathlib.Core.Path.{◌∙◌}
 use Rattle.sheetparts.proofs.Parts.{packet_of_refused, packet_past, packet_answered}
-use borrow.Author.Rules.{rules}
 use Rattle.sheetparts.proofs.packet_at.Goals as goal
 
 pub returns-then-whole-ne0 : goal.returns-then-whole-ne0

@@ -5,7 +5,6 @@ use native.Mathlib.Omega.{arith}
 use Rattle.words.proofs.Words.{word_there}
 use Rattle.sheet.proofs.Places.{codes_behind}
 use Rattle.sheetparts.proofs.Parts.{count_read, packet_short, packet_there_lem}
-use borrow.Author.Rules.{rules}
 use Rattle.sheetparts.proofs.packet_fields.Goals as goal
 
 pub returns-then-length-place : goal.returns-then-length-place

@@ -1,8 +1,6 @@
 -- `trace::print_pieces` meets its contract: each turn prints a line at least, so that it comes to the end of the trace.
 use mathlib.Core.Path.{refl, sym, ◌∙◌}
-use Prim.Native.Nat.{◌≤◌}
 use native.Mathlib.Omega.{arith}
-use lib.ListN.{length}
 use lib.Seq.{length-take-le}
 use Rattle.lines.proofs.Pieces.{goes_forward}
 use Rattle.trace.proofs.print_pieces.Goals as goal

@@ -1,10 +1,10 @@
 -- `words::put_bytes` meets its contract: after i turns the first i bytes stand in the room, and the rest is as it was.
 use mathlib.Core.Path.{◌≡◌, refl, sym, ◌∙◌}
-use Prim.Native.Nat.{◌+◌, ◌-◌, ◌≤◌}
+use Prim.Native.Nat.{◌+◌}
 use native.Mathlib.Numerals.{add-one}
 use native.Mathlib.Omega.{arith}
 use lib.ListN.{length, length-set}
-use lib.Seq.{paste, paste-zero, paste-suc}
+use lib.Seq.{paste-zero, paste-suc}
 use Rattle.words.proofs.Rooms.{paste_put, room_long, room_short}
 use Rattle.words.proofs.put_bytes.Goals as goal
 

@@ -1,11 +1,10 @@
 -- `words::put_words` meets its contract: after i turns the bytes of the first i words stand in the room, and the rest is as it was.
 use mathlib.Core.Path.{◌≡◌, refl, sym, ◌∙◌}
-use Prim.Native.Nat.{◌+◌, ◌-◌, ◌*◌, ◌≤◌}
+use Prim.Native.Nat.{◌+◌, ◌*◌}
 use native.Mathlib.Omega.{arith}
-use lib.ListN.{length, take, get_or}
+use lib.ListN.{length, get_or}
 use lib.Seq.{take_all}
 use Rattle.words.specs.Words.{big_endian, words_bytes}
-use Rattle.words.specs.Rooms.{put}
 use Rattle.words.proofs.Rooms.{put_none, sets_put, room_long, room_short}
 use Rattle.words.proofs.Words.{words_length, words_more}
 use Rattle.words.proofs.put_words.Goals as goal

@@ -1,13 +1,9 @@
 -- `words::put_words` meets its contract: after i turns the bytes of the first i words stand in the room, and the rest is as it was.
-use mathlib.Core.Path.{◌≡◌, refl, sym, ◌∙◌}
-use Prim.Native.Nat.{◌+◌, ◌-◌, ◌*◌, ◌≤◌}
-use native.Mathlib.Omega.{arith}
-use lib.ListN.{length, take, get_or}
-use lib.Seq.{take_all}
-use Rattle.words.specs.Words.{big_endian, words_bytes}
+use mathlib.Core.Path.{◌≡◌}
+use Prim.Native.Nat.{◌-◌, ◌≤◌}
+use lib.ListN.{length, take}
+use Rattle.words.specs.Words.{words_bytes}
 use Rattle.words.specs.Rooms.{put}
-use Rattle.words.proofs.Rooms.{put_none, sets_put, room_long, room_short}
-use Rattle.words.proofs.Words.{words_length, words_more}
 use Rattle.words.proofs.put_words.Given as goal
 
 abbrev pub invariant-loop-i : goal.invariant-loop-i

@@ -1,5 +1,4 @@
 -- `cells::joined::end_at` meets its contract, and its sum fits 64 bits.
-use borrow.Author.Rules.{rules}
 use native.Mathlib.Omega.{arith}
 use Rattle.cells.proofs.Wide.{times_fits, port_below}
 use Rattle.cells.proofs.joined.end_at.Goals as goal

@@ -1,5 +1,4 @@
 -- `cells::joined::first_over` meets its contract: the cell of (T + 1) * T servers is read off the sub-cell's number by one division.
-use borrow.Author.Rules.{rules}
 use mathlib.Core.Path.{◌≡◌, ap}
 use Prim.Native.Nat.{ℕ, ◌+◌, ◌*◌, ◌/◌}
 use native.Mathlib.Nat.{div-le_self}

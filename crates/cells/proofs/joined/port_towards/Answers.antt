@@ -1,5 +1,4 @@
 -- `cells::joined::port_towards` meets its contract: the code is the definition.
-use borrow.Author.Rules.{rules}
 use mathlib.Core.Path.{sym}
 use Rattle.hall.proofs.Place.{port_lt, port_ge}
 use Rattle.cells.proofs.joined.port_towards.Goals as goal

@@ -1,5 +1,4 @@
 -- `cells::joined::sub_over` meets its contract: the sub-cell's index is the remainder of its number.
-use borrow.Author.Rules.{rules}
 use native.Mathlib.Nat.{div-le_self}
 use native.Mathlib.Omega.{arith}
 use Rattle.cells.proofs.Wide.{sub_over_lem}

@@ -1,6 +1,5 @@
 -- `frame::addresses::addresses_fit` meets its contract: it asks of source, destination and proxy what the definition asks, in turn.
-use Rattle.std.proofs.Common.{◌≡◌, Bool, true, false, not, refl, rules}
-use borrow.Author.Tests.{not-true, not-false}
+use Rattle.std.proofs.Common.{◌≡◌, Bool, true, false, not, refl}
 use Rattle.combine.specs.Tests.{both, either}
 use Rattle.frame.specs.Addresses.{server, broadcast, addresses_fit}
 use Rattle.frame.proofs.addresses.addresses_fit.Goals as goal

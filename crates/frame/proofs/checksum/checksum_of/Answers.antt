@@ -1,5 +1,5 @@
 -- `frame::checksum::checksum_of` meets its contract: the ones' complement sum of the halves is the folded plain sum of the words, less the field.
-use Rattle.std.proofs.Common.{sym, arith, rules}
+use Rattle.std.proofs.Common.{sym, arith}
 use Rattle.frame.specs.Layout.{word_at}
 use Rattle.frame.proofs.Sums.{total_has, checksum_words}
 use Rattle.words.specs.Words.{Bytes}

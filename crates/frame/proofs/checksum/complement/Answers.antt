@@ -1,5 +1,5 @@
 -- `frame::checksum::complement` meets its contract: the folded sum is 0 for 0 alone, and else one more than what is left by 65,535 of one less.
-use Rattle.std.proofs.Common.{arith, rules, eq-eqb, ne_eqb}
+use Rattle.std.proofs.Common.{arith, eq-eqb, ne_eqb}
 use Rattle.frame.specs.Checksum.{folded}
 use Rattle.frame.proofs.checksum.complement.Goals as goal
 

@@ -1,5 +1,5 @@
 -- `frame::checksum::sum_words` meets its contract. Invariant: the sum is that of the words passed, each of which fits 32 bits; what is left falls.
-use Rattle.std.proofs.Common.{◌≡◌, ◌-◌, ◌*◌, ◌≤◌, sym, ap, ◌∙◌, arith}
+use Rattle.std.proofs.Common.{◌≡◌, sym, ap, ◌∙◌, arith}
 use Rattle.frame.specs.Layout.{word_at}
 use Rattle.frame.specs.Checksum.{total}
 use Rattle.frame.proofs.Sums.{total_none, total_more}

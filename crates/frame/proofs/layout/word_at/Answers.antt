@@ -1,6 +1,5 @@
 -- `frame::layout::word_at` meets its contract: the four bytes are those that the definition names.
 use Rattle.frame.specs.Layout.{word_at}
-use Rattle.std.proofs.Common.{rules}
 use Rattle.frame.proofs.layout.word_at.Goals as goal
 
 pub returns : goal.returns

@@ -1,7 +1,6 @@
 -- `frame::reading::fields_refusal` meets its contract: each field is taken out of its word.
 use Rattle.frame.specs.Layout.{word_at}
 use Rattle.frame.proofs.Rows.{version_in, DHL_in, flags_in}
-use Rattle.std.proofs.Common.{rules}
 use Rattle.frame.proofs.reading.fields_refusal.Goals as goal
 
 pub returns : goal.returns

@@ -1,5 +1,5 @@
 -- `frame::reading::header_of` meets its contract: an accepted frame has its words, and each field is taken out of its word.
-use Rattle.std.proofs.Common.{◌≡◌, ℕ, ◌/◌, ◌%◌, sym, ap, ◌∙◌, arith, rules}
+use Rattle.std.proofs.Common.{◌≡◌, ℕ, ◌/◌, ◌%◌, sym, ap, ◌∙◌, arith}
 use Rattle.frame.specs.Layout.{DHL, flags, words_with, is_pf, value_in, word_at}
 use Rattle.frame.proofs.Frames.{accepted_sound}
 use Rattle.frame.proofs.Rows.{DHL_in, payload_in, flags_in, parts_in, whole_in}

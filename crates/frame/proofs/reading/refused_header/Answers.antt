@@ -1,5 +1,4 @@
 -- `frame::reading::refused_header` meets its contract: the place is that of the number.
-use Rattle.std.proofs.Common.{rules}
 use Rattle.frame.proofs.reading.refused_header.Goals as goal
 
 pub returns : goal.returns

@@ -1,6 +1,5 @@
 -- `frame::reading::whole_refusal` meets its contract: it asks in the definition's order, each field taken out of its word.
-use Rattle.std.proofs.Common.{◌≡◌, ℕ, ◌+◌, ◌*◌, ◌%◌, Bool, List, length, sym, ap, ◌∙◌, arith, rules}
-use borrow.Author.Tests.{not-true, not-false}
+use Rattle.std.proofs.Common.{◌≡◌, ℕ, ◌+◌, ◌*◌, ◌%◌, Bool, List, length, sym, ap, ◌∙◌, arith}
 use Rattle.frame.specs.Layout.{DHL, payload_length, checksum, proxy, value_in, word_at}
 use Rattle.frame.specs.Checksum.{header_checksum}
 use Rattle.frame.specs.Addresses.{addresses_fit}

@@ -3,7 +3,6 @@ use mathlib.Core.Path.{sym}
 use native.Mathlib.Omega.{arith}
 use Rattle.frame.proofs.Rows.{words_fit}
 use Rattle.header.proofs.Written.{first_is}
-use borrow.Author.Rules.{rules}
 use Rattle.header.proofs.writing.first_word.Goals as goal
 
 pub overflow_cast-words : goal.overflow_cast-words

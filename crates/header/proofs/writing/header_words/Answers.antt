@@ -1,6 +1,5 @@
 -- `header::writing::header_words` meets its contract: the rows of one field are the field, and the other two are made by their functions.
 use Rattle.header.proofs.Written.{words_are}
-use borrow.Author.Rules.{rules}
 use Rattle.header.proofs.writing.header_words.Goals as goal
 
 pub returns : goal.returns

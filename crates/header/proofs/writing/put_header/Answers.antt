@@ -2,7 +2,6 @@
 use mathlib.Core.Path.{◌∙◌}
 use native.Mathlib.Omega.{arith}
 use lib.ListN.{get_or}
-use borrow.Author.Rules.{rules}
 use Rattle.frame.proofs.Rows.{words_fit}
 use Rattle.header.proofs.Written.{flag_small, sum_fits, third_is, third_word, sum_is, bytes_are}
 use Rattle.header.proofs.writing.put_header.Goals as goal

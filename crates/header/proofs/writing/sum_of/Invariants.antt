@@ -1,11 +1,8 @@
 -- `header::writing::sum_of` meets its contract. Invariant: the sum is that of the words passed, each of which fits 32 bits; what is left falls.
-use mathlib.Core.Path.{◌≡◌, ◌∙◌, ap, sym}
+use mathlib.Core.Path.{◌≡◌}
 use Prim.Native.Nat.{ℕ, ◌-◌, ◌*◌, ◌≤◌, ◌<◌}
-use native.Mathlib.Omega.{arith}
 use lib.ListN.{get_or}
-use borrow.Author.Rules.{rules}
-use Rattle.frame.specs.Checksum.{total, folded}
-use Rattle.frame.proofs.Sums.{total_none, total_more, plain_sum, fit_more}
+use Rattle.frame.specs.Checksum.{total}
 use Rattle.header.proofs.writing.sum_of.Given as goal
 
 abbrev pub invariant-loop-i : goal.invariant-loop-i

@@ -2,7 +2,6 @@
 use mathlib.Core.Path.{sym}
 use native.Mathlib.Omega.{arith}
 use Rattle.header.proofs.Written.{flag_small, third_is}
-use borrow.Author.Rules.{rules}
 use Rattle.header.proofs.writing.third_word.Goals as goal
 
 pub overflow_mul-result-2 : goal.overflow_mul-result-2

@@ -1,9 +1,7 @@
 -- `report::lengths::digits` meets its contract: the digits counted and those of what is left are always one more than all, and what is left falls.
-use mathlib.Core.Path.{◌≡◌, refl, ap}
-use Prim.Native.Nat.{◌+◌}
+use mathlib.Core.Path.{refl, ap}
 use native.Mathlib.Omega.{arith}
 use lib.ListN.{length}
-use Rattle.report.specs.Texts.{decimal}
 use Rattle.report.proofs.Texts.{decimal_small, decimal_more_length, decimal_fits}
 use Rattle.report.proofs.lengths.digits.Goals as goal
 

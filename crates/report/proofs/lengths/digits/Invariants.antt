@@ -1,10 +1,8 @@
 -- `report::lengths::digits` meets its contract: the digits counted and those of what is left are always one more than all, and what is left falls.
-use mathlib.Core.Path.{◌≡◌, refl, ap}
+use mathlib.Core.Path.{◌≡◌}
 use Prim.Native.Nat.{◌+◌}
-use native.Mathlib.Omega.{arith}
 use lib.ListN.{length}
 use Rattle.report.specs.Texts.{decimal}
-use Rattle.report.proofs.Texts.{decimal_small, decimal_more_length, decimal_fits}
 use Rattle.report.proofs.lengths.digits.Given as goal
 
 abbrev pub invariant-loop-left : goal.invariant-loop-left

@@ -1,5 +1,4 @@
 -- `report::lengths::end_length` meets its contract: the word, the digits and the newline.
-use borrow.Author.Rules.{rules}
 use native.Mathlib.Omega.{arith}
 use Rattle.report.specs.Texts.{newline}
 use Rattle.report.proofs.Texts.{with_length, end_parts}

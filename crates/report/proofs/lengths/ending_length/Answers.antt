@@ -1,5 +1,4 @@
 -- `report::lengths::ending_length` meets its contract: the word for a delivery, or that for a drop with its number.
-use borrow.Author.Rules.{rules}
 use mathlib.Core.Path.{ap}
 use native.Mathlib.Omega.{arith}
 use lib.ListN.{length}

@@ -1,6 +1,5 @@
 -- `report::lengths::packet_length` meets its contract: the head, the uids that are told and the newline.
 use native.Mathlib.Omega.{arith}
-use borrow.Author.Rules.{rules}
 use Rattle.report.proofs.Texts.{line_told}
 use Rattle.report.proofs.lengths.packet_length.Goals as goal
 

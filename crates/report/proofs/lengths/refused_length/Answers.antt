@@ -1,5 +1,4 @@
 -- `report::lengths::refused_length` meets its contract: the word, and the digits of each number with a byte behind them.
-use borrow.Author.Rules.{rules}
 use native.Mathlib.Omega.{arith}
 use Rattle.report.specs.Texts.{space, newline}
 use Rattle.report.proofs.Texts.{with_length, refused_parts}

@@ -1,9 +1,8 @@
 -- `report::lengths::uids_length` meets its contract: after i turns the sum is the length of the text of the first i uids, at most eleven for each.
 use mathlib.Core.Path.{◌≡◌, refl}
-use Prim.Native.Nat.{◌*◌, ◌-◌, ◌≤◌}
+use Prim.Native.Nat.{◌-◌}
 use native.Mathlib.Omega.{arith}
-use borrow.Author.Rules.{rules}
-use lib.ListN.{length, take}
+use lib.ListN.{length}
 use Rattle.report.specs.Texts.{uids_text}
 use Rattle.report.proofs.Texts.{uids_next_length}
 use Rattle.report.proofs.lengths.uids_length.Goals as goal

@@ -1,5 +1,5 @@
 -- `report::puts::put_number` meets its contract: a number's digits but the last are those of a tenth of it, and it falls.
-use mathlib.Core.Path.{◌∙◌, ap}
+use mathlib.Core.Path.{ap}
 use Prim.Native.Nat.{◌+◌, ◌/◌}
 use native.Mathlib.Omega.{arith}
 use lib.ListN.{length}

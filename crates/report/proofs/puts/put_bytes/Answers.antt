@@ -1,6 +1,5 @@
 -- `report::puts::put_bytes` meets its contract: the room has place for the text.
 use mathlib.Core.Path.{refl, ◌∙◌}
-use borrow.Author.Rules.{rules}
 use Rattle.words.proofs.Rooms.{room_long}
 use Rattle.report.proofs.puts.put_bytes.Goals as goal
 

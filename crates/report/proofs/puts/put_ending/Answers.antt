@@ -2,7 +2,6 @@
 use mathlib.Core.Path.{◌∙◌, ap}
 use native.Mathlib.Omega.{arith}
 use lib.ListN.{length}
-use borrow.Author.Rules.{rules}
 use Rattle.report.specs.Texts.{space, word_drop, number_with}
 use Rattle.report.proofs.Rooms.{put_next}
 use Rattle.report.proofs.Texts.{ending_delivered, ending_drop, drop-length}

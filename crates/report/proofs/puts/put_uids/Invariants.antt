@@ -1,15 +1,10 @@
 -- `report::puts::put_uids` meets its contract: after i turns the text of the first i uids stands in the room.
-use mathlib.Core.Path.{◌≡◌, refl, sym, ◌∙◌}
-use mathlib.Core.List.{[], ◌∷◌, ◌++◌}
+use mathlib.Core.Path.{◌≡◌}
+use mathlib.Core.List.{[]}
 use Prim.Native.Nat.{◌+◌, ◌-◌, ◌≤◌}
-use native.Mathlib.Omega.{arith}
-use lib.ListN.{length, take, get_or, length-set}
-use lib.Seq.{append_snoc}
-use Rattle.report.specs.Texts.{decimal, space, uids_text}
+use lib.ListN.{length, take}
+use Rattle.report.specs.Texts.{uids_text}
 use Rattle.words.specs.Rooms.{put}
-use Rattle.words.proofs.Rooms.{put_none}
-use Rattle.report.proofs.Rooms.{put_next, byte_next}
-use Rattle.report.proofs.Texts.{uids_next, uids_within}
 use Rattle.report.proofs.puts.put_uids.Given as goal
 
 abbrev pub invariant-loop-i : goal.invariant-loop-i

@@ -3,7 +3,6 @@ use mathlib.Core.Path.{sym}
 use native.Mathlib.Omega.{arith}
 use Rattle.words.proofs.Words.{value_one}
 use Rattle.sheet.proofs.Reading.{any_cut, any_there}
-use borrow.Author.Rules.{rules}
 use Rattle.sheet.proofs.fields.read_byte.Goals as goal
 
 pub returns-then-sheet-at : goal.returns-then-sheet-at

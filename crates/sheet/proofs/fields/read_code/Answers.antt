@@ -5,8 +5,6 @@ use mathlib.Core.List.{List}
 use Prim.Native.Nat.{ℕ, ◌+◌, ◌≤◌}
 use native.Mathlib.Omega.{arith}
 use lib.ListN.{length, get_or}
-use borrow.Author.Rules.{rules}
-use borrow.Author.Tests.{not-true, not-false}
 use Rattle.hall.specs.Refusals.{bad_code}
 use Rattle.ports.specs.Codes.{known}
 use Rattle.sheet.specs.declared.Field.TheVariants.{Value, Refused}

@@ -3,7 +3,6 @@ use borrow.Author.Tests.{eq-eqb, ne_eqb}
 use lib.Dec.{eqb}
 use Rattle.hall.specs.Refusals.{bad_length}
 use Rattle.sheet.proofs.Reading.{missed, failed, passed}
-use borrow.Author.Rules.{rules}
 use Rattle.sheet.proofs.fields.read_count.Goals as goal
 
 pub returns-in_default : goal.returns-in_default

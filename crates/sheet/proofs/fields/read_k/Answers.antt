@@ -1,10 +1,8 @@
 -- `sheet::fields::read_k` meets its contract: the byte is read, and the hall's own test decides.
 use mathlib.Core.Path.{sym, ◌∙◌}
-use borrow.Author.Tests.{not-true, not-false}
 use Rattle.hall.specs.Halls.{k_fits}
 use Rattle.hall.specs.Refusals.{bad_hall}
 use Rattle.sheet.proofs.Reading.{missed, failed, passed}
-use borrow.Author.Rules.{rules}
 use Rattle.sheet.proofs.fields.read_k.Goals as goal
 
 pub returns-in_default : goal.returns-in_default

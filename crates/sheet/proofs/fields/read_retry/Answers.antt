@@ -3,7 +3,6 @@ use borrow.Author.Tests.{le-leb, lt-leb}
 use lib.Dec.{leb}
 use Rattle.hall.specs.Refusals.{bad_retry, most_retry}
 use Rattle.sheet.proofs.Reading.{missed, failed, passed}
-use borrow.Author.Rules.{rules}
 use Rattle.sheet.proofs.fields.read_retry.Goals as goal
 
 pub returns-in_default : goal.returns-in_default

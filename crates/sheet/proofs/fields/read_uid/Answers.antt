@@ -3,7 +3,6 @@ use borrow.Author.Tests.{lt-ltb, le-ltb}
 use lib.Dec.{ltb}
 use Rattle.hall.specs.Refusals.{bad_uid}
 use Rattle.sheet.proofs.Reading.{missed, failed, passed}
-use borrow.Author.Rules.{rules}
 use Rattle.sheet.proofs.fields.read_uid.Goals as goal
 
 pub returns-in_default : goal.returns-in_default

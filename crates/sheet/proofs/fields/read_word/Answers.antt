@@ -3,7 +3,6 @@ use mathlib.Core.Path.{sym}
 use native.Mathlib.Omega.{arith}
 use Rattle.words.proofs.Words.{word_there}
 use Rattle.sheet.proofs.Reading.{any_cut, any_there}
-use borrow.Author.Rules.{rules}
 use Rattle.sheet.proofs.fields.read_word.Goals as goal
 
 pub returns-then-length-at-lt4 : goal.returns-then-length-at-lt4

@@ -3,7 +3,6 @@ use mathlib.Core.Path.{sym, ◌∙◌}
 use native.Mathlib.Omega.{arith}
 use Rattle.sheet.specs.Sheets.{packet}
 use Rattle.sheet.proofs.Reading.{then_value, then_refused, next_within}
-use borrow.Author.Rules.{rules}
 use Rattle.sheet.proofs.sections.read_packet.Goals as goal
 
 pub returns-in_default : goal.returns-in_default

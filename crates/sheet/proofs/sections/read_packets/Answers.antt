@@ -1,11 +1,7 @@
 -- `sheet::sections::read_packets` meets its contract: what is left to read from the next place on is what the whole reads from the first.
 use mathlib.Core.Path.{◌≡◌, refl, sym, ◌∙◌}
-use Prim.Native.Nat.{◌≤◌}
 use native.Mathlib.Omega.{arith}
-use borrow.Author.Rules.{rules}
-use lib.ListN.{length}
-use Rattle.sheet.specs.Formats.{read}
-use Rattle.sheet.specs.Sheets.{packet, times}
+use Rattle.sheet.specs.Sheets.{packet}
 use Rattle.sheet.proofs.Reading.{times_none, times_more, times_stop, next_within}
 use Rattle.sheet.proofs.sections.read_packets.Goals as goal
 

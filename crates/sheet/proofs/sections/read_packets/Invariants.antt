@@ -1,12 +1,9 @@
 -- `sheet::sections::read_packets` meets its contract: what is left to read from the next place on is what the whole reads from the first.
-use mathlib.Core.Path.{◌≡◌, refl, sym, ◌∙◌}
+use mathlib.Core.Path.{◌≡◌}
 use Prim.Native.Nat.{◌≤◌}
-use native.Mathlib.Omega.{arith}
-use borrow.Author.Rules.{rules}
 use lib.ListN.{length}
 use Rattle.sheet.specs.Formats.{read}
 use Rattle.sheet.specs.Sheets.{packet, times}
-use Rattle.sheet.proofs.Reading.{times_none, times_more, times_stop, next_within}
 use Rattle.sheet.proofs.sections.read_packets.Given as goal
 
 abbrev pub invariant-loop-left : goal.invariant-loop-left

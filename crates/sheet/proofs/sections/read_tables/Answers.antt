@@ -6,7 +6,6 @@ use Rattle.hall.proofs.Growth.{valid_servers}
 use Rattle.ports.proofs.Parts.{product_fits}
 use Rattle.sheet.specs.Sheets.{tables_of}
 use Rattle.sheet.proofs.Reading.{read_done, then_value, then_refused, next_within}
-use borrow.Author.Rules.{rules}
 use Rattle.sheet.proofs.sections.read_tables.Goals as goal
 
 pub overflow_mul-servers : goal.overflow_mul-servers

@@ -6,7 +6,6 @@ use Rattle.hall.specs.Refusals.{bad_hall}
 use Rattle.sheet.specs.Sheets.{night_sheet}
 use Rattle.sheet.proofs.Reading.{then_value, then_refused, next_within, field_read}
 use Rattle.sheet.proofs.Heads.{valid_read}
-use borrow.Author.Rules.{rules}
 use Rattle.sheet.proofs.sections.read_whole.Goals as goal
 
 pub returns-in_default : goal.returns-in_default
