@@ -35,18 +35,26 @@ apply() { # EDIT CRATE'S-FOLDER
     done <"$1"
 }
 
-# Checks a crate with an edit, in a copy of the repository that has nothing else to do meanwhile.
-try() { # COPY EDIT
-    local crate=${2#crates/} part
-    crate=${crate%%/*}
-    local there=$1/crates/$crate log=$logs/$crate/$(basename "$2" .edit).log
-    mkdir -p "$there/out" "$(dirname "$log")"
-    for part in src specs proofs out/incremental; do
+# Makes a part of a crate in a copy of the repository what it is here.
+restore() { # COPY CRATE PART..
+    local crate=$2 there=$1/crates/$2 part
+    shift 2
+    mkdir -p "$there/out"
+    for part in "$@"; do
         rm -rf "${there:?}/$part"
         if [ -d "crates/$crate/$part" ]; then cp -R "crates/$crate/$part" "$there/$part"; fi
     done
-    apply "$2" "$there" >"$log" || return 0
-    (cd "$there" && rt check --jobs 1) >>"$log" 2>&1 </dev/null || true
+}
+
+# Checks a crate with an edit, in a copy of the repository that has nothing else to do meanwhile.
+try() { # COPY EDIT
+    local crate=${2#crates/}
+    crate=${crate%%/*}
+    local log=$logs/$crate/$(basename "$2" .edit).log
+    mkdir -p "$(dirname "$log")"
+    restore "$1" "$crate" out/incremental
+    if apply "$2" "$1/crates/$crate" >"$log"; then (cd "$1/crates/$crate" && rt check --jobs 1) >>"$log" 2>&1 </dev/null || true; fi
+    restore "$1" "$crate" src specs proofs
 }
 
 # The folder of a function's proof, or of all the functions that it calls in a circle.
