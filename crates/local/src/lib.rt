@@ -232,7 +232,6 @@ fn distances_from(h: Hall, table: &[u8], o: u32) -> [u8; 72]
 }
 
 // The table of a server's DCell(b); none of it where the server is not fitted, since then no code of it counts.
-#[tactic(auto, using(crate::proofs::Counting::full_codes, crate::proofs::Counting::own_codes, crate::proofs::Counting::no_codes))]
 fn own_codes(h: Hall, uid: u32, table: &[u8]) -> &[u8]
     requires { (valid h ≡ true) × (uid < servers h) }
     ensures { result.now ≡ pick (fitted h uid) table.now [] }
