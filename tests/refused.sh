@@ -59,11 +59,14 @@ try() { # COPY EDIT
 
 # The folder of a function's proof, or of all the functions that it calls in a circle.
 proofs_of() { # CRATE, functions on standard input
-    local name path circle
+    local name path function cycle circle
     while IFS= read -r name; do
         path=${name#"$1"::}
         path=${path//:://}
-        circle=$(find "crates/$1/proofs" -type d -name "+*" | sed "s|^crates/$1/proofs/||" | grep -E "(^|/)\+([a-z_0-9]+\+)*${path##*/}(\+|$)" || true)
+        function=${path##*/}
+        # The name that functions that call each other give their circle; one that calls itself alone gives it its own.
+        cycle=$(grep -rh -A 1 '^#\[cycle(' "crates/$1/src" | sed -n -E '/^#\[cycle\((.*)\)\]$/{s//\1/;h;d;}; /^(pub(\([a-z]+\))? )?fn '"$function"'\(/{g;p;}')
+        circle=$(find "crates/$1/proofs" -type d -name "+${cycle:-$function}" 2>/dev/null | sed "s|^crates/$1/proofs/||")
         echo "${circle:-$path}"
     done | sort -u
 }
