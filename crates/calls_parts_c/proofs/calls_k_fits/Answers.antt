@@ -1,0 +1,5 @@
+-- `calls_parts_c::calls_k_fits` meets its contract: it is that of the function that it calls.
+use Rattle.calls_parts_c.proofs.calls_k_fits.Goals as goal
+
+pub returns : goal.returns
+returns c = c.calls_k_fits.ensures
