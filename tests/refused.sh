@@ -35,6 +35,12 @@ apply() { # EDIT CRATE'S-FOLDER
     done <"$1"
 }
 
+# Where what the check of an edit said is kept.
+log_of() { # EDIT
+    local crate=${1#crates/}
+    echo "$logs/${crate%%/*}/$(basename "$1" .edit).log"
+}
+
 # Makes a part of a crate in a copy of the repository what it is here.
 restore() { # COPY CRATE PART..
     local crate=$2 there=$1/crates/$2 part
@@ -48,9 +54,9 @@ restore() { # COPY CRATE PART..
 
 # Checks a crate with an edit, in a copy of the repository that has nothing else to do meanwhile.
 try() { # COPY EDIT
-    local crate=${2#crates/}
+    local crate=${2#crates/} log
     crate=${crate%%/*}
-    local log=$logs/$crate/$(basename "$2" .edit).log
+    log=$(log_of "$2")
     mkdir -p "$(dirname "$log")"
     restore "$1" "$crate" out/incremental
     if apply "$2" "$1/crates/$crate" >"$log"; then (cd "$1/crates/$crate" && rt check --jobs 1) >>"$log" 2>&1 </dev/null || true; fi
@@ -116,7 +122,7 @@ rm -f "${TMPDIR:-/tmp}/refused-$$.log"
 
 room=$(mktemp -d)
 trap 'rm -rf "$room"' EXIT
-rm -rf "$logs"
+for edit in "${edits[@]}"; do rm -f "$(log_of "$edit")"; done
 lane() { # NUMBER
     mkdir "$room/$1"
     cp crates.txt "$room/$1"
@@ -130,7 +136,7 @@ wait
 for edit in "${edits[@]}"; do
     crate=${edit#crates/}
     crate=${crate%%/*}
-    log=$logs/$crate/$(basename "$edit" .edit).log
+    log=$(log_of "$edit")
     [ -f "$log" ] || { fail "$edit was not tried: $log is missing"; continue; }
     grep -q '^logic=not-proved' "$log" || { fail "$edit is not refused by the prover: $log ends in '$(tail -n 1 "$log")'"; continue; }
     shape=$(grep -F -o -m 1 "$shapes" "$log" || true)
