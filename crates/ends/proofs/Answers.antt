@@ -1,7 +1,7 @@
 -- What the call answers: a refusal, a short room, or the part with the far codes behind it, of the hall table as its codes count.
 use mathlib.Core.Path.{◌≡◌, sym, ◌∙◌, ap}
 use mathlib.Core.List.{List, ◌++◌}
-use Prim.Native.Nat.{ℕ, ◌+◌, ◌-◌, ◌≤◌, ◌<◌}
+use Prim.Native.Nat.{ℕ, ◌+◌, ◌-◌, ◌*◌, ◌≤◌, ◌<◌}
 use native.Mathlib.Omega.{arith}
 use lib.ListN.{length, drop, length-append}
 use borrow.Author.Tests.{eq-eqb}
@@ -13,6 +13,9 @@ use Rattle.hall.proofs.Growth.{valid_known}
 use Rattle.hall.proofs.Told.{told_refused, told_short, told_good, written_refused, written_short, written_good}
 use Rattle.words.specs.Rooms.{put, room_of}
 use Rattle.words.proofs.Rooms.{put_put, room_long, room_start}
+use Rattle.hall.specs.Answers.{size_of}
+use Rattle.local.specs.Local.{cell_size}
+use Rattle.local.proofs.Sizes.{cell_size_lem}
 use Rattle.ports.specs.Codes.{cell_length, part}
 use Rattle.ports.specs.Answers.{part_refusal, part_of}
 use Rattle.ports.proofs.Parts.{Sound, sound}
@@ -21,6 +24,7 @@ use Rattle.counted.specs.Counted.{counted}
 use Rattle.counted.proofs.Counted.{counted_sound}
 use Rattle.ends.specs.Tables.{far_count, step_length, far_at, step_table}
 use Rattle.ends.specs.Answers.{of_step_table}
+use Rattle.ends.proofs.Codes.{all_far}
 
 -- bytes at the start of a room and others behind them
 one_behind : (room a b : List ℕ) → length a + length b ≤ length room → put (room_of room 0 a) (length a) b ≡ (a ++ b) ++ drop (length (a ++ b)) room
@@ -56,6 +60,23 @@ module _ (h : Hall) (table : List ℕ) (u : ℕ) where
       ap (λ (x : List ℕ). put (room_of room 0 x) (length x) (up_to (far_at h table u) (far_count h))) q
       ∙ one_behind room (part h table u) (up_to (far_at h table u) (far_count h)) w
 
+-- what is worked out where nothing is refused: the codes of the server's cell, the cell's size, and the bytes that are wanted
+pub record Parted (h : Hall) (table : List ℕ) (u : ℕ) (near : List ℕ) (size : ℕ) : Type 0 where
+  pub sound : Sound h table u
+  pub near_is : near ≡ part h table u
+  pub near_long : length near ≡ cell_length h h.b
+  pub size_is : size ≡ cell_size h
+  pub far_is : size * (h.k - h.b) ≡ far_count h
+  pub wanted : length near + size * (h.k - h.b) ≡ step_length h
+
+-- the table of the hall table as it is stands in the room, once the part and the far codes are written
+pub plain_room : (h : Hall) (table : List ℕ) (u : ℕ) (near : List ℕ) (size : ℕ) → Parted h table u near size
+    → (room : List ℕ) → step_length h ≤ length room → (first both : List ℕ) → first ≡ room_of room 0 near
+    → both ≡ put first (length near) (up_to (far_at h table u) (far_count h))
+    → both ≡ step_table h table u ++ drop (length (step_table h table u)) room
+plain_room h table u near size k room m first both e f =
+    f ∙ ap (λ (r : List ℕ). put r (length near) (up_to (far_at h table u) (far_count h))) e ∙ table_plain h table u k.sound room m near k.near_is
+
 -- by the refusal of the part
 module _ (h : Hall) (table : List ℕ) (u : ℕ) where
   module _ (r : ℕ) (e : r ≡ part_refusal h table u) (room : List ℕ) where
@@ -73,9 +94,17 @@ module _ (h : Hall) (table : List ℕ) (u : ℕ) where
       pub part_sound : Sound h table u
       part_sound = sound h table u none
 
-      -- the part that the code was handed
-      pub part_is : part_of h table u ≡ part h table u
+      part_is : part_of h table u ≡ part h table u
       part_is = rw (eq-eqb (part_refusal h table u) 0 none)
+
+      -- by the part and the size that the code was handed
+      pub parted : (near : List ℕ) (size : ℕ) → near ≡ part_of h table u → size ≡ size_of h h.b → Parted h table u near size
+      unfolding step_length
+      parted near size p q =
+          let long : length near ≡ cell_length h h.b = ap length (p ∙ part_is) ∙ part_length h table u part_sound in
+          let sized = cell_size_lem h size part_sound.is_valid q in
+          let far = all_far h part_sound.is_valid size sized in
+          record { sound = part_sound; near_is = p ∙ part_is; near_long = long; size_is = sized; far_is = far; wanted = omega (arith, long, far) }
 
       table_is : (of_step_table h table u).1 ≡ step_table h (counted h 0 table) u
       table_is = rw (eq-eqb (part_refusal h table u) 0 none)

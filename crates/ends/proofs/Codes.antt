@@ -120,6 +120,11 @@ module _ (h : Hall) (is_valid : valid h ≡ true) where
   unfolding far_count
   all_far count e = ap (λ (m : ℕ). m * (h.k - h.b)) e
 
+-- the first server of a cell, by the cell's size as the code has worked it out
+pub first_by : (h : Hall) (me count : ℕ) → count ≡ cell_size h → me / count * count ≡ first_of h me
+unfolding first_of
+first_by h me count e = ap (λ (m : ℕ). me / m * m) e
+
 -- the far code of the server at a place, at the level so many above b + 1
 abbrev pub code : Hall → List ℕ → ℕ → ℕ → ℕ → ℕ
 code h table me d p = far_code h table (first_of h me + p) (suc h.b + d)

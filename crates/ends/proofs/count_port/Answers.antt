@@ -13,6 +13,7 @@ use Rattle.local.proofs.Sizes.{cell_size_lem, size_pos}
 use Rattle.local.proofs.Uids.{uid_within}
 use Rattle.ends.specs.Filling.{spread, port_code}
 use Rattle.ends.proofs.Spread.{length-spread}
+use Rattle.ends.proofs.Codes.{first_by}
 use Rattle.ends.proofs.Counts.{fitted_place, port_more}
 use Rattle.ends.proofs.count_port.Goals.{After-size_of-count, At-loop-p, In-loop-p}
 use Rattle.ends.proofs.count_port.Goals as goal
@@ -22,17 +23,15 @@ counted c = cell_size_lem _ _ c.requires.0 c.size_of-count.ensures
 
 first_is : (c : After-size_of-count) → let a = c.args in
     a.uid / c.size_of-count.result * c.size_of-count.result ≡ first_of a.h a.uid
-unfolding first_of
-first_is c = ap (λ (m : ℕ). c.args.uid / m * m) (counted c)
+first_is c = first_by c.args.h c.args.uid _ (counted c)
 
 -- the next server is in the cell
 place : (c : In-loop-p) → c.loop-p.p < cell_size c.args.h
-place c = omega (arith, c.loop-p-test.true, (let counted : c.size_of-count.result ≡ cell_size c.args.h = cell_size_lem _ _ c.requires.0 c.size_of-count.ensures in counted))
+place c = omega (arith, c.loop-p-test.true, cell_size_lem _ _ c.requires.0 c.size_of-count.ensures)
 
 server : (c : In-loop-p) → let a = c.args in let m = c.size_of-count.result in
     a.uid / m * m + c.loop-p.p ≡ first_of a.h a.uid + c.loop-p.p
-unfolding first_of
-server c = ap (λ (f : ℕ). f + c.loop-p.p) ((let first_is : let a = c.args in a.uid / c.size_of-count.result * c.size_of-count.result ≡ first_of a.h a.uid = ap (λ (m : ℕ). c.args.uid / m * m) ((let counted : c.size_of-count.result ≡ cell_size c.args.h = cell_size_lem _ _ c.requires.0 c.size_of-count.ensures in counted)) in first_is))
+server c = ap (λ (f : ℕ). f + c.loop-p.p) (first_by c.args.h c.args.uid _ (cell_size_lem _ _ c.requires.0 c.size_of-count.ensures))
 
 within : (c : In-loop-p) → let a = c.args in first_of a.h a.uid + c.loop-p.p < servers a.h
 within c = uid_within c.args.h c.args.uid _ (valid_known _ c.requires.0) c.requires.1 (place c)

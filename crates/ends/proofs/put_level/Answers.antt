@@ -14,7 +14,7 @@ use Rattle.local.proofs.Sizes.{cell_size_lem, size_pos}
 use Rattle.ends.specs.Tables.{levels, far_code}
 use Rattle.ends.specs.Filling.{spread}
 use Rattle.ends.proofs.Spread.{length-spread}
-use Rattle.ends.proofs.Codes.{first_in_lem, size_some, far_is, far_fits, far_read, cell_few, levels_few, all_far}
+use Rattle.ends.proofs.Codes.{first_by, first_in_lem, size_some, far_is, far_fits, far_read, cell_few, levels_few, all_far}
 use Rattle.ends.proofs.put_level.Goals.{After-code_at, After-neighbour_of-far, After-struct_known-1}
 use Rattle.ends.proofs.put_level.Goals as goal
 
@@ -26,19 +26,16 @@ sized c = let p = c.requires in size_of_lem _ _ _ p.0 (omega (arith, p.3)) c.siz
 
 first_is : (c : After-struct_known-1) → let a = c.args in
     a.uid / c.size_of-count.result * c.size_of-count.result ≡ first_of a.h a.uid
-unfolding first_of
-first_is c = ap (λ (m : ℕ). c.args.uid / m * m) (counted c)
+first_is c = first_by c.args.h c.args.uid _ (counted c)
 
 far_told : (c : After-neighbour_of-far) → let a = c.args in
     let first = a.uid / c.size_of-count.result * c.size_of-count.result in
     c.neighbour_of-far.result.uid ≡ neighbour a.h.n (a.level - 1) first
-unfolding first_of
 far_told c = ap (λ (r : Neighbour). r.uid) c.neighbour_of-far.ensures
-    ∙ neighbour_told _ _ _ c.requires.0 (rw ((let first_is : let a = c.args in a.uid / c.size_of-count.result * c.size_of-count.result ≡ first_of a.h a.uid = ap (λ (m : ℕ). c.args.uid / m * m) ((let counted : c.size_of-count.result ≡ cell_size c.args.h = cell_size_lem _ _ c.requires.0 c.size_of-count.ensures in counted)) in first_is)) (first_in_lem c.args.h c.requires.0 c.args.uid c.args.level c.requires.1 c.requires.2 c.requires.3)) (omega (arith, c.requires.2)) c.requires.3
+    ∙ neighbour_told _ _ _ c.requires.0 (rw (first_by c.args.h c.args.uid _ (cell_size_lem _ _ c.requires.0 c.size_of-count.ensures)) (first_in_lem c.args.h c.requires.0 c.args.uid c.args.level c.requires.1 c.requires.2 c.requires.3)) (omega (arith, c.requires.2)) c.requires.3
 
 some : (c : After-neighbour_of-far) → 0 < c.size_of-size.result
-unfolding first_of
-some c = size_some c.args.h c.requires.0 c.args.uid c.args.level c.requires.1 c.requires.2 c.requires.3 _ _ _ _ ((let counted : c.size_of-count.result ≡ cell_size c.args.h = cell_size_lem _ _ c.requires.0 c.size_of-count.ensures in counted)) ((let sized : let a = c.args in c.size_of-size.result ≡ t a.h.n (a.level - 1) = let p = c.requires in size_of_lem _ _ _ p.0 (omega (arith, p.3)) c.size_of-size.ensures in sized)) ((let first_is : let a = c.args in a.uid / c.size_of-count.result * c.size_of-count.result ≡ first_of a.h a.uid = ap (λ (m : ℕ). c.args.uid / m * m) ((let counted : c.size_of-count.result ≡ cell_size c.args.h = cell_size_lem _ _ c.requires.0 c.size_of-count.ensures in counted)) in first_is)) (far_told c)
+some c = size_some c.args.h c.requires.0 c.args.uid c.args.level c.requires.1 c.requires.2 c.requires.3 _ _ _ _ (cell_size_lem _ _ c.requires.0 c.size_of-count.ensures) (size_of_lem _ _ _ c.requires.0 (omega (arith, c.requires.3)) c.size_of-size.ensures) (first_by c.args.h c.args.uid _ (cell_size_lem _ _ c.requires.0 c.size_of-count.ensures)) (far_told c)
 
 -- the next place is in the room
 room_is : (c : After-code_at) → length c.loop-p.room ≡ length c.args.room.now
@@ -48,7 +45,7 @@ stands_in : (c : After-code_at) → c.loop-p.next < length c.args.room.now
 stands_in c =
     let l = c.loop-p in
     let m : suc l.p * levels c.args.h ≤ c.size_of-count.result * levels c.args.h = mul-le-mul_right (levels c.args.h) c.loop-p-test.true in
-    omega (arith, m, l.invariant.1, all_far c.args.h c.requires.0 _ ((let counted : c.size_of-count.result ≡ cell_size c.args.h = cell_size_lem _ _ c.requires.0 c.size_of-count.ensures in counted)), c.requires.4)
+    omega (arith, m, l.invariant.1, all_far c.args.h c.requires.0 _ (cell_size_lem _ _ c.requires.0 c.size_of-count.ensures), c.requires.4)
 
 pub overflow_sub-level : goal.overflow_sub-level
 overflow_sub-level c = omega (arith, c.requires.2)
