@@ -316,6 +316,10 @@ module _ (packet : Packet) where
   goal_cleared true = sym (tidied_dst packet)
   goal_cleared false = cases packet.has_proxy (λ e. rw e) (λ e. rw e)
 
+  -- the goal that is looked for, where the packet is cleared as it came
+  pub goal_looked : (arrived : Bool) (p : Packet) (uid : ℕ) → p ≡ cleared_if arrived packet → uid ≡ goal p → uid ≡ goal (cleared_if arrived (tidied packet))
+  goal_looked arrived p uid e f = f ∙ ap goal e ∙ goal_cleared arrived
+
 module _ (h : Hall) (packet : Packet) where
   pub tidied_sound : Sound h packet → Sound h (tidied packet)
   tidied_sound a =

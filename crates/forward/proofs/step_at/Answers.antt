@@ -6,7 +6,7 @@ use Rattle.forward.specs.Packets.{drop_ttl, delivered, tidied, goal, ended}
 use Rattle.forward.specs.Seen.{seen}
 use Rattle.forward.specs.Steps.{step_from, step_on}
 use Rattle.forward.specs.Inside.{Standing, cleared_if, lent, outlook_of}
-use Rattle.forward.proofs.CodeSteps.{stands_ahead, looked, step_goes, goal_cleared, stands_on_way, step_delivers, step_dies, step_goes_on}
+use Rattle.forward.proofs.CodeSteps.{stands_ahead, looked, step_goes, goal_looked, stands_on_way, step_delivers, step_dies, step_goes_on}
 use Rattle.forward.proofs.Trips.{tidied_dst}
 use Rattle.forward.proofs.step_at.Goals.{After-cleared_if-2, After-cleared_if-in-Next, After-goal, After-is_arrived-arrived, After-look-outlook}
 use Rattle.forward.proofs.step_at.Goals as goal
@@ -21,7 +21,7 @@ on_way_stands c =
 -- and its goal is the one that is looked for
 on_way_goal : (c : After-goal)
     → c.goal.result ≡ goal (cleared_if c.is_arrived-arrived.result (tidied c.args.packet))
-on_way_goal c = c.goal.ensures ∙ ap goal c.cleared_if.ensures ∙ goal_cleared _ c.is_arrived-arrived.result
+on_way_goal c = goal_looked _ c.is_arrived-arrived.result _ _ c.cleared_if.ensures c.goal.ensures
 
 -- what was looked at lies before it
 seen_ahead : (c : After-look-outlook)
@@ -30,7 +30,7 @@ seen_ahead : (c : After-look-outlook)
 seen_ahead c =
     let a = c.args in
     let s = seen a.h (lent a.h a.whole a.table.now a.me) in
-    looked _ _ _ _ _ _ _ ((let on_way_goal : c.goal.result ≡ goal (cleared_if c.is_arrived-arrived.result (tidied c.args.packet)) = c.goal.ensures ∙ ap goal c.cleared_if.ensures ∙ goal_cleared _ c.is_arrived-arrived.result in on_way_goal)) c.look-outlook.ensures ∙ ap (λ (x : ℕ). outlook_of a.h s a.me x (goal (cleared_if c.is_arrived-arrived.result (tidied a.packet)))) (sym (tidied_dst a.packet))
+    looked _ _ _ _ _ _ _ (goal_looked _ c.is_arrived-arrived.result _ _ c.cleared_if.ensures c.goal.ensures) c.look-outlook.ensures ∙ ap (λ (x : ℕ). outlook_of a.h s a.me x (goal (cleared_if c.is_arrived-arrived.result (tidied a.packet)))) (sym (tidied_dst a.packet))
 
 -- where it goes on, the step is what comes from 4 on
 from_4 : (c : After-look-outlook) (o : Step)
