@@ -1,4 +1,4 @@
--- `ports::all_known_lem` meets its contract: all codes are known exactly where the highest so far is, and each of what is left.
+-- `ports::all_known` meets its contract: all codes are known exactly where the highest so far is, and each of what is left.
 use mathlib.Core.Path.{sym, ◌∙◌}
 use Rattle.ports.proofs.Tables.{known_start, known_next, known_end}
 use Rattle.ports.proofs.all_known.Goals as goal

@@ -1,4 +1,4 @@
--- `ports::all_known_lem` meets its contract: all codes are known exactly where the highest so far is, and each of what is left.
+-- `ports::all_known` meets its contract: all codes are known exactly where the highest so far is, and each of what is left.
 use mathlib.Core.Path.{◌≡◌}
 use Prim.Native.Nat.{◌-◌}
 use lib.ListN.{length, drop}

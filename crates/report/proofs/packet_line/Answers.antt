@@ -3,7 +3,6 @@ use mathlib.Core.Path.{◌≡◌, ◌∙◌}
 use mathlib.Core.List.{◌++◌}
 use Prim.Native.Nat.{min, ◌+◌, ◌≤◌}
 use native.Mathlib.Omega.{arith}
-use borrow.Author.Tests.{not-true, not-false}
 use lib.ListN.{length, take, length-set}
 use Rattle.report.specs.Texts.{newline, packet_head, uids_text, packet_line}
 use Rattle.report.proofs.Rooms.{put_next, byte_next, line_short, line_written, line_fits}
@@ -16,21 +15,21 @@ behind : (c : Else-not-packet_fits) → c.args.at + length (packet_line c.args.p
 behind c =
     let a = c.args in
     let r = c.packet_fits in
-    line_fits a.room.now a.at (packet_line a.p a.uids.now) r.result r.ensures (not-false r.result c.if-not-packet_fits.false-raw)
+    line_fits a.room.now a.at (packet_line a.p a.uids.now) r.result r.ensures c.if-not-packet_fits.false
 
 -- the newline's place is the last of the line
-newline-at : (c : After-slice_known-3-1) → c.put_uids-newline_at.result + 1 ≤ length c.args.room.now
-newline-at c =
+newline_in : (c : After-slice_known-3-1) → c.put_uids-newline_at.result + 1 ≤ length c.args.room.now
+newline_in c =
     let a = c.args in
     let n = c.passed in
     let t = line_told a.p a.uids.now n.result n.ensures in
-    omega (arith, (let behind : c.args.at + length (packet_line c.args.p c.args.uids.now) ≤ length c.args.room.now = let a = c.args in let r = c.packet_fits in line_fits a.room.now a.at (packet_line a.p a.uids.now) r.result r.ensures (not-false r.result c.if-not-packet_fits.false-raw) in behind), c.put_packet-uids_at.ensures.next, c.put_uids-newline_at.ensures.next)
+    omega (arith, line_fits a.room.now a.at (packet_line a.p a.uids.now) _ c.packet_fits.ensures c.if-not-packet_fits.false, c.put_packet-uids_at.ensures.next, c.put_uids-newline_at.ensures.next)
 
 pub returns-then-not-packet_fits : goal.returns-then-not-packet_fits
 returns-then-not-packet_fits c =
     let it = let a = c.args in
     let r = c.packet_fits in
-    line_short a.room.now a.at _ r.result r.ensures (not-true r.result c.if-not-packet_fits.true-raw) in record { answer = it.0; room = it.1 }
+    line_short a.room.now a.at _ r.result r.ensures c.if-not-packet_fits.true in record { answer = it.0; room = it.1 }
 
 pub put_packet-uids_at-requires : goal.put_packet-uids_at-requires
 put_packet-uids_at-requires c =
@@ -46,10 +45,10 @@ put_uids-newline_at-requires c =
     (omega (arith, behind (goal.at.put_uids-newline_at-requires c).Else-not-packet_fits, p.ensures.next, p.auto.room), omega (arith, n.ensures))
 
 pub bounds-room-newline_at : goal.bounds-room-newline_at
-bounds-room-newline_at c = omega (arith, newline-at (goal.at.bounds-room-newline_at c).After-slice_known-3-1, c.put_packet-uids_at.auto.room, c.put_uids-newline_at.auto.room)
+bounds-room-newline_at c = omega (arith, newline_in (goal.at.bounds-room-newline_at c).After-slice_known-3-1, c.put_packet-uids_at.auto.room, c.put_uids-newline_at.auto.room)
 
 pub overflow_add-result : goal.overflow_add-result
-overflow_add-result c = omega (arith, newline-at (goal.at.overflow_add-result c).After-slice_known-3-1)
+overflow_add-result c = omega (arith, newline_in (goal.at.overflow_add-result c).After-slice_known-3-1)
 
 pub shape_of-room : goal.shape_of-room
 shape_of-room c =
@@ -64,10 +63,10 @@ returns c =
     let p = c.put_packet-uids_at in
     let n = c.passed in
     let u = c.put_uids-newline_at in
-    let l = newline-at (goal.at.returns c).After-slice_known-3-1 in
+    let l = newline_in (goal.at.returns c).After-slice_known-3-1 in
     let e : take n.result a.uids.now ≡ take (min (a.p.links + 1) 256) a.uids.now =
     rw n.ensures (take_given a.uids.now (min (a.p.links + 1) 256)) in
     let s = put_next a.room.now a.at (packet_head a.p) (uids_text (take n.result a.uids.now)) p.result u.result p.new.room u.new.room
     (p.ensures.next, p.ensures.room) (u.ensures.next, u.ensures.room) (omega (arith, p.ensures.next, u.ensures.next)) in
     let w = byte_next a.room.now a.at (packet_head a.p ++ uids_text (take n.result a.uids.now)) u.result u.new.room newline s (omega arith) in
-    line_written a.room.now a.at _ r.result r.ensures (not-false r.result c.if-not-packet_fits.false-raw) (u.result + 1) _ (rw e at w) in record { answer = it.0; room = it.1 }
+    line_written a.room.now a.at _ r.result r.ensures c.if-not-packet_fits.false (u.result + 1) _ (rw e at w) in record { answer = it.0; room = it.1 }
