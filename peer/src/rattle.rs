@@ -1,5 +1,5 @@
-//! The proved calls, as the static libraries of the crates `calls_hall`, `calls_plan`, `calls_packets`, `driver`, `calls_parts`,
-//! `calls_sheets` and `calls_lines` export them, behind safe functions.
+//! The proved calls, as the static libraries of the crates `calls_hall_c`, `calls_plan_c`, `calls_packets_c`, `driver_c`,
+//! `calls_parts_c`, `calls_sheets_c` and `calls_lines_c` export them, behind safe functions.
 //!
 //! Nothing checks these declarations against the Rattle source: whoever changes a signature there changes it here. A slice is two
 //! arguments to Rattle, a pointer and a length, and is declared as two. A Rust slice would be one: where a single register is left
