@@ -16,11 +16,10 @@ use Rattle.combine.specs.Lists.{up_to}
 use Rattle.combine.proofs.Tests.{cases, both_left, both_right}
 use Rattle.combine.proofs.Lists.{get_or-up_to}
 use Rattle.hall.specs.declared.Hall.{Hall}
-use Rattle.hall.specs.declared.Sizes.{Sizes}
 use Rattle.hall.specs.Refusals.{refusal}
 use Rattle.hall.specs.Cells.{t, g}
 use Rattle.hall.specs.Halls.{places, top, most_n, Sized, n_fits, k_fits, b_fits, count_fits, valid, servers, largest}
-use Rattle.hall.specs.Answers.{size_at, size_of, sizes_of}
+use Rattle.hall.specs.Answers.{SizesAnswer, size_at, size_of, sizes_of}
 use Rattle.hall.proofs.Cells.{t_pos}
 
 pub t_more : (n m i : ℕ) → n ≤ m → t n i ≤ t m i
@@ -141,7 +140,7 @@ size_read n k i sizes h l e =
     ap (λ (r : List ℕ). get_or r i 0) e ∙ get_or-up_to (size_at n k) places i 0 (omega arith) ∙ size_at_lem n k i l
 
 -- the sizes of a hall, by whether there is such a hall
-module _ (h : Hall) (s : Sizes) (e : s ≡ sizes_of h) where
+module _ (h : Hall) (s : SizesAnswer) (e : s ≡ sizes_of h) where
   sizes_valid : valid h ≡ true → s ≡ record { refusal = 0; t = up_to (size_at h.n h.k) places }
   unfolding refusal
   sizes_valid v = e ∙ rw v
@@ -152,16 +151,16 @@ module _ (h : Hall) (s : Sizes) (e : s ≡ sizes_of h) where
 
   pub sizes_refused : (s.refusal ≡ 0 → ⊥) → (valid h ≡ false) × (s.refusal ≡ 1)
   sizes_refused d = cases (valid h)
-      (λ v. absurd (d (ap (λ (z : Sizes). z.refusal) (sizes_valid v))))
-      (λ v. (v, ap (λ (z : Sizes). z.refusal) (sizes_invalid v)))
+      (λ v. absurd (d (ap (λ (z : SizesAnswer). z.refusal) (sizes_valid v))))
+      (λ v. (v, ap (λ (z : SizesAnswer). z.refusal) (sizes_invalid v)))
 
   pub sizes_given : s.refusal ≡ 0 → valid h ≡ true
   sizes_given q = cases (valid h)
       (λ v. v)
-      (λ v. let o : s.refusal ≡ 1 = ap (λ (z : Sizes). z.refusal) (sizes_invalid v) in absurd (omega arith))
+      (λ v. let o : s.refusal ≡ 1 = ap (λ (z : SizesAnswer). z.refusal) (sizes_invalid v) in absurd (omega arith))
 
   pub sizes_listed : valid h ≡ true → s.t ≡ up_to (size_at h.n h.k) places
-  sizes_listed v = ap (λ (z : Sizes). z.t) (sizes_valid v)
+  sizes_listed v = ap (λ (z : SizesAnswer). z.t) (sizes_valid v)
 
   pub sizes_at : valid h ≡ true → (i : ℕ) → i ≤ h.k → get_or s.t i 0 ≡ t h.n i
   sizes_at v i l = size_read h.n h.k i s.t (valid_known h v).k_high l (sizes_listed v)

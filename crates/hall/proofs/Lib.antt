@@ -7,3 +7,4 @@ pub mod Tuples
 pub mod Growth
 pub mod Racks
 pub mod Told
+pub mod Stated

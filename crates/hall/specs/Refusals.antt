@@ -1,6 +1,9 @@
 -- The refusal numbers, and the order in which a call gives them.
 -- Section "Refusal numbers".
-use Rattle.std.specs.Prelude.{ℕ, Bool, false, not, List, [], ◌∷◌, eqb}
+use Rattle.std.specs.Prelude.{ℕ, Bool, false, not, List, [], ◌∷◌, eqb, Result, Ok, Err}
+use Rattle.hall.specs.declared.refusals.Refusal.{Refusal}
+use Rattle.hall.specs.declared.refusals.Fault.{Fault}
+use Rattle.hall.specs.declared.refusals.Refusal.TheVariants.{BadHall, BadUid, BadRange, BadLength, BadCode, ShortRoom, ShortFrame, BadRetry, BadChecksum, BadSheet, BadAddress, HallFull, BadVersion, BadDhl, BadFlags, BadPf}
 use Rattle.combine.specs.Tests.{pick, both, either}
 
 -- n, k, b or the count of a hall outside its range
@@ -101,3 +104,37 @@ in_order (ask ∷ asks) = pick ask.1 (in_order asks) ask.0
 -- a call's answer: good where nothing is refused, else what a refusal of that number answers
 abbrev pub answered {ℓ} : {A : Type ℓ} → ℕ → A → (ℕ → A) → A
 answered number good refused = pick (eqb number 0) good (refused number)
+
+-- the number of each reason to refuse
+abbrev pub number_of : Refusal → ℕ
+number_of BadHall = bad_hall
+number_of BadUid = bad_uid
+number_of BadRange = bad_range
+number_of BadLength = bad_length
+number_of BadCode = bad_code
+number_of ShortRoom = short_room
+number_of ShortFrame = short_frame
+number_of BadRetry = bad_retry
+number_of BadChecksum = bad_checksum
+number_of BadSheet = bad_sheet
+number_of BadAddress = bad_address
+number_of HallFull = hall_full
+number_of BadVersion = bad_version
+number_of BadDhl = bad_DHL
+number_of BadFlags = bad_flags
+number_of BadPf = bad_PF
+
+-- the number of an answer's refusal, 0 where nothing is refused
+abbrev pub refusal_in : {A : Type 0} → Result A Refusal → ℕ
+refusal_in (Ok _) = 0
+refusal_in (Err r) = number_of r
+
+-- an answer's number and values: the number 0 and the answer's values, or the refusal's number and the values stated for it
+abbrev pub stated : {A T : Type 0} → (A → T) → (ℕ → T) → Result A Refusal → T
+stated good refused (Ok a) = good a
+stated good refused (Err r) = refused (number_of r)
+
+-- the same of an answer that tells a place with its refusal
+abbrev pub stated_at : {A T : Type 0} → (A → T) → (ℕ → ℕ → T) → Result A Fault → T
+stated_at good refused (Ok a) = good a
+stated_at good refused (Err f) = refused (number_of f.refusal) f.place

@@ -9,9 +9,9 @@ ghost use Rattle.combine.specs.Tests.{pick};
 ghost use Rattle.combine.specs.Lists.{up_to};
 ghost use Rattle.hall.specs.Cells.{t};
 ghost use Rattle.hall.specs.Halls.{places, Sized, capacity, n_fits, k_fits, b_fits, count_fits, valid, servers};
-ghost use Rattle.hall.specs.Answers.{size_at, size_of, racks_of, sizes_of};
+ghost use Rattle.hall.specs.Answers.{size_at, size_of, racks_of, sizes_of, sizes_stated};
 
-use crate::refusals::BAD_HALL;
+use crate::refusals::Refusal;
 
 // The most servers on a mini-switch.
 pub const MOST_N: u32 = 8;
@@ -27,13 +27,6 @@ pub struct Hall {
     pub k: u32,
     pub b: u32,
     pub count: u32,
-}
-
-// The sizes of a hall: t(0) .. t(k), zeros above k.
-#[derive(Clone, Copy)]
-pub struct Sizes {
-    pub refusal: u32,
-    pub t: [u32; PLACES],
 }
 
 // Whether n is in its range.
@@ -122,10 +115,8 @@ fn size(n: u32, i: u32) -> u32
     ensures { result ≡ t n i }
 {
     let mut s = n;
-    let mut j: u32 = 0;
-    while j < i {
+    for _j in 0..i {
         s = (s + 1) * s;
-        j += 1;
     }
     s
 }
@@ -160,30 +151,22 @@ fn sizes_up_to(n: u32, k: u32) -> [u32; PLACES]
 {
     let mut t = [0u32; PLACES];
     let mut s = n;
-    let mut i: u32 = 0;
-    while i < k {
+    for i in 0..k {
         let at = i as usize;
         t[at] = s;
         s = (s + 1) * s;
-        i += 1;
     }
     let top = k as usize;
     t[top] = s;
     t
 }
 
-// The sizes of a hall.
-pub fn sizes_of(h: Hall) -> Sizes
-    ensures { result ≡ sizes_of h }
+// The sizes of a hall: t(0) .. t(k), zeros above k.
+pub fn sizes_of(h: Hall) -> Result<[u32; PLACES], Refusal>
+    ensures { sizes_stated result ≡ sizes_of h }
 {
     if !is_valid(h) {
-        return Sizes {
-            refusal: BAD_HALL,
-            t: [0u32; PLACES],
-        };
+        return Err(Refusal::BadHall);
     }
-    Sizes {
-        refusal: 0,
-        t: sizes_up_to(h.n, h.k),
-    }
+    Ok(sizes_up_to(h.n, h.k))
 }

@@ -7,16 +7,16 @@ use Rattle.hall.proofs.size.Goals as goal
 
 pub loop-j-init : goal.loop-j-init
 unfolding t
-loop-j-init c = (omega arith, refl)
+loop-j-init c = refl
 
 pub overflow_add-s : goal.overflow_add-s
-overflow_add-s c = omega (arith, t_fits _ _ c.loop-j.j c.requires (omega arith))
+overflow_add-s c = omega (arith, t_fits _ _ c.loop-j._j c.requires (omega arith))
 
 pub overflow_mul-s : goal.overflow_mul-s
-overflow_mul-s c = omega (arith, next_fits _ _ c.loop-j.j c.loop-j.s c.requires (omega arith) c.loop-j.invariant.1)
+overflow_mul-s c = omega (arith, next_fits _ _ c.loop-j._j c.loop-j.s c.requires (omega arith) c.loop-j.invariant)
 
 pub loop-j-preserved : goal.loop-j-preserved
-loop-j-preserved c = (omega arith, t_next c.args.n c.loop-j.j c.loop-j.s c.loop-j.invariant.1)
+loop-j-preserved c = t_next c.args.n c.loop-j._j c.loop-j.s c.loop-j.invariant
 
 pub returns : goal.returns
-returns c = let e : c.loop-j.j ≡ c.args.i = omega arith in rw (← e) c.loop-j.invariant.1
+returns c = let e : c.loop-j._j ≡ c.args.i = omega arith in rw (← e) c.loop-j.invariant

@@ -27,24 +27,24 @@ last n k i s a q h e f =
 
 pub loop-i-init : goal.loop-i-init
 unfolding t up_to
-loop-i-init c = (omega arith, refl, refl)
+loop-i-init c = (refl, refl)
 
 pub bounds-t-at : goal.bounds-t-at
-bounds-t-at c = let w = c.loop-i in omega (arith, long _ _ w.i w.t (omega arith) w.invariant.2)
+bounds-t-at c = let w = c.loop-i in omega (arith, long _ _ w.i w.t (omega arith) w.invariant.1)
 
 pub overflow_add-s : goal.overflow_add-s
 overflow_add-s c = omega (arith, t_fits _ _ c.loop-i.i c.requires (omega arith))
 
 pub overflow_mul-s : goal.overflow_mul-s
-overflow_mul-s c = omega (arith, next_fits _ _ c.loop-i.i c.loop-i.s c.requires (omega arith) c.loop-i.invariant.1)
+overflow_mul-s c = omega (arith, next_fits _ _ c.loop-i.i c.loop-i.s c.requires (omega arith) c.loop-i.invariant.0)
 
 pub loop-i-preserved : goal.loop-i-preserved
 loop-i-preserved c =
     let w = c.loop-i in
-    (omega arith, t_next _ _ _ w.invariant.1, store _ _ w.i w.s w.t (omega arith) (omega arith) w.invariant.1 w.invariant.2)
+    (t_next _ _ _ w.invariant.0, store _ _ w.i w.s w.t (omega arith) (omega arith) w.invariant.0 w.invariant.1)
 
 pub bounds-t-top : goal.bounds-t-top
-bounds-t-top c = let w = c.loop-i in omega (arith, long _ _ w.i w.t (omega arith) w.invariant.2)
+bounds-t-top c = let w = c.loop-i in omega (arith, long _ _ w.i w.t (omega arith) w.invariant.1)
 
 pub returns : goal.returns
-returns c = let w = c.loop-i in last _ _ w.i w.s w.t (omega arith) (omega arith) w.invariant.1 w.invariant.2
+returns c = let w = c.loop-i in last _ _ w.i w.s w.t (omega arith) (omega arith) w.invariant.0 w.invariant.1

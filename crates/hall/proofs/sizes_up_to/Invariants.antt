@@ -1,7 +1,7 @@
 -- `hall::sizes_up_to` meets its contract: the places below i hold their sizes, s is the next, and zeros stand behind.
 use mathlib.Core.Path.{◌≡◌}
 use mathlib.Core.List.{List, ◌++◌}
-use Prim.Native.Nat.{ℕ, ◌-◌, ◌≤◌}
+use Prim.Native.Nat.{ℕ}
 use lib.ListN.{drop, replicate}
 use Rattle.combine.specs.Lists.{up_to}
 use Rattle.hall.specs.Cells.{t}
@@ -14,7 +14,4 @@ abbrev pub Filled : ℕ → ℕ → ℕ → List ℕ → Type 0
 Filled n k i a = a ≡ up_to (size_at n k) i ++ drop i (replicate places 0)
 
 abbrev pub invariant-loop-i : goal.invariant-loop-i
-invariant-loop-i l = (l.i ≤ l.k) × (l.s ≡ t l.n l.i) × Filled l.n l.k l.i l.t
-
-abbrev pub decreases-loop-i : goal.decreases-loop-i
-decreases-loop-i l = l.k - l.i
+invariant-loop-i l = (l.s ≡ t l.n l.i) × Filled l.n l.k l.i l.t
