@@ -1,25 +1,12 @@
 -- Laws of an answer told through room: a refusal leaves the room as lent, a short room is 6, and else the words stand at its start.
 use mathlib.Core.Path.{◌≡◌}
 use mathlib.Core.List.{List, ◌++◌}
-use Prim.Native.Nat.{ℕ, suc, ◌+◌, ◌<◌, ◌≤◌}
-use native.Mathlib.Numerals.{add-one}
-use native.Mathlib.Omega.{arith}
-use lib.ListN.{length, take, drop, get_or, set}
-use lib.Seq.{paste-suc}
+use Prim.Native.Nat.{ℕ, ◌<◌, ◌≤◌}
+use lib.ListN.{length, drop}
 use borrow.Author.Tests.{eq-eqb, ne_eqb, lt-ltb, le-ltb}
 use Rattle.hall.specs.Rooms.{told, written}
 
--- the room with the first i words in it
-abbrev pub Put : List ℕ → List ℕ → ℕ → List ℕ
-Put words room i = take i words ++ drop i room
-
-pub put_more : (words room : List ℕ) (i : ℕ) → i < length words → i < length room → set (Put words room i) i (get_or words i 0) ≡ Put words room (i + 1)
-put_more words room i h l =
-    let z : 0 + i ≡ i = omega arith in
-    let s : 0 + suc i ≡ suc i = omega arith in
-    rw (add-one i) (rw (z, s) at (paste-suc room 0 words i 0 (omega arith) h))
-
-module _ (number : ℕ) (words room : List ℕ) where
+module _ {A : Type 0} (number : ℕ) (words room : List A) where
   pub told_refused : (number ≡ 0 → ⊥) → told (number, words) room ≡ number
   unfolding told
   told_refused d = rw (ne_eqb number 0 d)

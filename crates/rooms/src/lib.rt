@@ -2,50 +2,31 @@
 
 #![tactic(auto)]
 
-ghost use Rattle.std.specs.Prelude.{◌≡◌, ◌++◌, ◌≤◌, length, drop};
-ghost use Rattle.hall.specs.Rooms.{told, written};
+ghost use Rattle.std.specs.Prelude.{◌≡◌};
+ghost use Rattle.hall.specs.Rooms.{told, written, outcome};
 
-use hall::refusals::SHORT_ROOM;
-use words::put_bytes;
+use hall::refusals::Refusal;
 
-// The words at the start of the room.
-fn put(words: &[u32], room: &mut [u32])
-    requires { length words.now ≤ length room.old }
-    ensures { room.new ≡ words.now ++ drop (length words.now) room.old }
+// An answer: its refusal's number, or its values in the room and 0.
+pub fn tell<T: Copy, const N: usize>(answer: Result<[T; N], Refusal>, room: &mut [T]) -> u32
+    ensures number { result ≡ told (outcome answer) room.old }
+    ensures room { room.new ≡ written (outcome answer) room.old }
 {
-    let mut i: usize = 0;
-    while i < words.len() {
-        room[i] = words[i];
-        i += 1;
+    match answer {
+        Ok(values) => tell_all(&values, room),
+        Err(refusal) => refusal.number(),
     }
 }
 
-// An answer: its refusal, and its words in the room where there is none.
-pub fn tell(number: u32, words: &[u32], room: &mut [u32]) -> u32
-    ensures number { result ≡ told (number, words.now) room.old }
-    ensures room { room.new ≡ written (number, words.now) room.old }
+// As many values as there are, where nothing is refused.
+pub fn tell_all<T: Copy>(values: &[T], room: &mut [T]) -> u32
+    ensures number { result ≡ told (0, values.now) room.old }
+    ensures room { room.new ≡ written (0, values.now) room.old }
 {
-    if number != 0 {
-        return number;
+    let count = values.len();
+    if room.len() < count {
+        return Refusal::ShortRoom.number();
     }
-    if room.len() < words.len() {
-        return SHORT_ROOM;
-    }
-    put(words, room);
-    0
-}
-
-// The same for an answer in bytes.
-pub fn tell_bytes(number: u32, bytes: &[u8], room: &mut [u8]) -> u32
-    ensures number { result ≡ told (number, bytes.now) room.old }
-    ensures room { room.new ≡ written (number, bytes.now) room.old }
-{
-    if number != 0 {
-        return number;
-    }
-    if room.len() < bytes.len() {
-        return SHORT_ROOM;
-    }
-    put_bytes(room, 0, bytes);
+    room[..count].copy_from_slice(values);
     0
 }

@@ -1,16 +1,10 @@
--- `rooms::tell` meets its contract, by the three ways in which an answer is told.
-use mathlib.Core.Path.{sym, ◌∙◌}
-use Rattle.hall.proofs.Told.{told_refused, told_short, told_good, written_refused, written_short, written_good}
+-- `rooms::tell` meets its contract: a refusal is told by its number.
+use mathlib.Core.Path.{◌∙◌}
+use Rattle.hall.proofs.Stated.{refusal_told, refusal_unwritten}
 use Rattle.rooms.proofs.tell.Goals as goal
 
-pub returns-then-number-ne0 : goal.returns-then-number-ne0
-returns-then-number-ne0 c = record { number = sym (told_refused _ _ _ c.if-number-ne0.true); room = written_refused _ _ _ c.if-number-ne0.true }
+pub returns-in-Err-clause-number : goal.returns-in-Err-clause-number
+returns-in-Err-clause-number g c = rw c.in-Err.is (c.number.ensures ∙ refusal_told c.in-Err.refusal _ _)
 
-pub returns-then-room-words : goal.returns-then-room-words
-returns-then-room-words c = record { number = sym (told_short _ _ _ c.if-number-ne0.false c.if-room-words.true); room = written_short _ _ _ c.if-number-ne0.false c.if-room-words.true }
-
-pub returns : goal.returns
-returns c =
-    let e = c.if-number-ne0.false in
-    let h = c.if-room-words.false in
-    record { number = sym (told_good _ _ _ e h); room = c.put.ensures ∙ written_good _ _ _ e h }
+pub returns-in-Err-clause-room : goal.returns-in-Err-clause-room
+returns-in-Err-clause-room g c = rw c.in-Err.is (refusal_unwritten c.in-Err.refusal _ _)
