@@ -1,12 +1,14 @@
 -- Laws of bytes written to lent room: a byte, and one run of bytes behind another.
-use mathlib.Core.Path.{◌≡◌, sym, ◌∙◌, ap}
+use mathlib.Core.Path.{◌≡◌, refl, sym, ◌∙◌, ap}
 use mathlib.Core.List.{List, [], ◌∷◌, ◌++◌, append_assoc, append-nil}
 use Prim.Native.Nat.{ℕ, suc, ◌+◌, ◌≤◌, ◌<◌}
 use native.Mathlib.Numerals.{add-one}
 use native.Mathlib.Omega.{arith}
 use lib.ListN.{length, take, drop, set, length-append, length-drop, take-append-drop}
-use lib.Seq.{length-take-le, take_at, drop-append-add, drop-drop, set_split, take-length, paste, sets, sets-eq}
+use lib.Seq.{length-take-le, take_at, drop-append-add, drop-drop, set_split, take-length, paste}
+use borrow.Rule.Slice.PartMut.{put_mid}
 use borrow.Author.Tests.{le-leb, lt-leb}
+use Rattle.std.proofs.lemmas.Slice.{put_mid-paste}
 use Rattle.words.specs.Rooms.{put, roomy, room_of}
 
 pub put_one : (room : List ℕ) (at byte : ℕ) → at < length room → set room at byte ≡ put room at (byte ∷ [])
@@ -47,15 +49,13 @@ module _ (room : List ℕ) (at : ℕ) where
       let k : next < length (put room at a) = omega (arith, length-put a (omega arith)) in
       rw e (put_one (put room at a) (at + length a) byte (omega arith) ∙ put_put a (byte ∷ []) (omega arith))
 
-  -- stores one after another
-  pub sets_put : (bytes : List ℕ) → at + length bytes ≤ length room → sets room at bytes ≡ put room at bytes
-  unfolding put
-  sets_put bytes h = sets-eq bytes room at h
-
-  -- the whole of copied bytes
+  -- the whole of copied bytes, and a part of the room that is copied over
   pub paste_put : (bytes : List ℕ) → paste room at bytes (length bytes) ≡ put room at bytes
   unfolding put
   paste_put bytes = rw (take-length bytes)
+
+  pub copied : (k : ℕ) (part bytes : List ℕ) → part ≡ bytes → length bytes ≡ k → put_mid at k room part ≡ put room at bytes
+  copied k part bytes e l = put_mid-paste at k room part bytes (length bytes) e l refl ∙ paste_put bytes
 
   -- a room that is long enough, and one that is not
   pub room_long : (bytes : List ℕ) → at + length bytes ≤ length room → room_of room at bytes ≡ put room at bytes

@@ -3,9 +3,8 @@
 #![tactic(auto)]
 
 ghost use Rattle.std.specs.Prelude.{◌≡◌, ◌+◌, ◌≤◌, length};
-ghost use Rattle.std.proofs.lemmas.List.Edits.{sets};
 ghost use Rattle.words.specs.Words.{big_endian, words_bytes, word_at};
-ghost use Rattle.words.specs.Rooms.{room_of};
+ghost use Rattle.words.specs.Rooms.{put, room_of};
 
 // The big-endian number in four bytes, from the place of the first; 0 where they are not there.
 #[tactic(auto, using(crate::proofs::Words::word_cut))]
@@ -19,25 +18,19 @@ pub fn word_at(bytes: &[u8], at: usize) -> u32
     if length - at < 4 {
         return 0;
     }
-    let a = bytes[at] as u32;
-    let b = bytes[at + 1] as u32;
-    let c = bytes[at + 2] as u32;
-    let d = bytes[at + 3] as u32;
-    ((a * 256 + b) * 256 + c) * 256 + d
+    u32::from_be_bytes([bytes[at], bytes[at + 1], bytes[at + 2], bytes[at + 3]])
 }
 
 // The four bytes of a word, at a place of a room that has it.
 fn put_word(room: &mut [u8], at: usize, word: u32)
     requires { at + 4 ≤ length room.old }
-    ensures { room.new ≡ sets room.old at (big_endian word) }
+    ensures { room.new ≡ put room.old at (big_endian word) }
 {
-    room[at] = (word / 16777216 % 256) as u8;
-    room[at + 1] = (word / 65536 % 256) as u8;
-    room[at + 2] = (word / 256 % 256) as u8;
-    room[at + 3] = (word % 256) as u8;
+    room[at..at + 4].copy_from_slice(&word.to_be_bytes());
 }
 
 // Words one behind the other, from a place of the room on; where they do not all fit, the room stays as it is.
+#[tactic(auto, using(crate::proofs::Rooms::room_short, crate::proofs::Words::words_length))]
 pub fn put_words(room: &mut [u8], at: usize, words: &[u32])
     ensures { room.new ≡ room_of room.old at (words_bytes words.now) }
 {
@@ -48,14 +41,13 @@ pub fn put_words(room: &mut [u8], at: usize, words: &[u32])
     if (length - at) / 4 < words.len() {
         return;
     }
-    let mut i: usize = 0;
-    while i < words.len() {
-        put_word(room, at + i * 4, words[i]);
-        i += 1;
+    for (i, word) in words.iter().enumerate() {
+        put_word(room, at + i * 4, *word);
     }
 }
 
 // Bytes from a place of the room on; where they do not all fit, the room stays as it is.
+#[tactic(auto, using(crate::proofs::Rooms::room_short))]
 pub fn put_bytes(room: &mut [u8], at: usize, bytes: &[u8])
     ensures { room.new ≡ room_of room.old at bytes.now }
 {
@@ -66,9 +58,5 @@ pub fn put_bytes(room: &mut [u8], at: usize, bytes: &[u8])
     if length - at < bytes.len() {
         return;
     }
-    let mut i: usize = 0;
-    while i < bytes.len() {
-        room[at + i] = bytes[i];
-        i += 1;
-    }
+    room[at..at + bytes.len()].copy_from_slice(bytes);
 }

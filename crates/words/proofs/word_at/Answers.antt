@@ -1,53 +1,9 @@
--- `words::word_at` meets its contract: the four bytes are there, each below 256, and make the number; or one of them is not.
-use Prim.Native.Nat.{◌+◌}
+-- `words::word_at` meets its contract: the four bytes are there and make the number, or one of them is not.
 use native.Mathlib.Omega.{arith}
-use mathlib.Core.Path.{sym, ◌∙◌}
 use Rattle.words.proofs.Words.{value_four, word_there}
 use Rattle.words.proofs.word_at.Goals as goal
-
-pub overflow_cast-a : goal.overflow_cast-a
-overflow_cast-a c = omega (arith, c.shared_slice_known-1.given c.args.at)
-
-pub overflow_cast-b : goal.overflow_cast-b
-overflow_cast-b c = omega (arith, c.shared_slice_known-2-1.given (c.args.at + 1))
-
-pub overflow_cast-c : goal.overflow_cast-c
-overflow_cast-c c = omega (arith, c.shared_slice_known-3-1.given (c.args.at + 2))
-
-pub overflow_cast-d : goal.overflow_cast-d
-overflow_cast-d c = omega (arith, c.shared_slice_known-4-1.given (c.args.at + 3))
-
-pub overflow_mul-result : goal.overflow_mul-result
-overflow_mul-result c =
-    let g = c.shared_slice_known-4-1.given in
-    omega (arith, g c.args.at, g (c.args.at + 1), g (c.args.at + 2), g (c.args.at + 3))
-
-pub overflow_add-result : goal.overflow_add-result
-overflow_add-result c =
-    let g = c.shared_slice_known-4-1.given in
-    omega (arith, g c.args.at, g (c.args.at + 1), g (c.args.at + 2), g (c.args.at + 3))
-
-pub overflow_mul-result-2 : goal.overflow_mul-result-2
-overflow_mul-result-2 c =
-    let g = c.shared_slice_known-4-1.given in
-    omega (arith, g c.args.at, g (c.args.at + 1), g (c.args.at + 2), g (c.args.at + 3))
-
-pub overflow_add-result-2 : goal.overflow_add-result-2
-overflow_add-result-2 c =
-    let g = c.shared_slice_known-4-1.given in
-    omega (arith, g c.args.at, g (c.args.at + 1), g (c.args.at + 2), g (c.args.at + 3))
-
-pub overflow_mul-result-3 : goal.overflow_mul-result-3
-overflow_mul-result-3 c =
-    let g = c.shared_slice_known-4-1.given in
-    omega (arith, g c.args.at, g (c.args.at + 1), g (c.args.at + 2), g (c.args.at + 3))
-
-pub overflow_add-result-3 : goal.overflow_add-result-3
-overflow_add-result-3 c =
-    let g = c.shared_slice_known-4-1.given in
-    omega (arith, g c.args.at, g (c.args.at + 1), g (c.args.at + 2), g (c.args.at + 3))
 
 pub returns : goal.returns
 returns c =
     let a = c.args in
-    sym (word_there a.bytes.now a.at (omega arith) ∙ value_four a.bytes.now a.at)
+    omega (arith, word_there a.bytes.now a.at (omega arith), value_four a.bytes.now a.at, c.from_be_bytes.ensures)
