@@ -1,5 +1,5 @@
 -- Laws of words as big-endian bytes: four bytes make a word and a word four bytes, so a header's words and its bytes are one thing.
-use Rattle.std.proofs.Common.{◌≡◌, ℕ, zero, suc, ◌+◌, ◌*◌, ◌<◌, ◌≤◌, eqb, List, ◌++◌, length, get_or, take, drop, sym, refl, ap, ◌∙◌, append_assoc, arith, length-append, take-suc, take-add, drop_at, eqb-true}
+use Rattle.std.proofs.Common.{◌≡◌, ℕ, zero, suc, Fits, w8, ◌+◌, ◌*◌, ◌<◌, ◌≤◌, eqb, List, ◌++◌, length, get_or, take, drop, sym, refl, ap, ◌∙◌, append_assoc, arith, length-append, take-suc, take-add, drop_at, eqb-true}
 use lib.ListN.{get_or-append}
 use borrow.Author.Tests.{eqb-false}
 use Rattle.combine.proofs.Tests.{cases}
@@ -7,6 +7,10 @@ use Rattle.words.specs.Words.{Bytes, value, big_endian, words_bytes}
 use Rattle.words.proofs.Words.{value_four, four_bytes, bytes_there, words_last}
 use Rattle.words.proofs.Bytes.{value_laid}
 use Rattle.frame.specs.Layout.{word_at, bytes_of}
+
+-- a slice of bytes is a byte string
+pub bytes_known : (s : List ℕ) → ((i : ℕ) → Fits w8 (get_or s i 0)) → Bytes s
+bytes_known s fit = record { below = λ i. omega (arith, fit i) }
 
 -- a word is the number in its four bytes
 word_value : (bytes : List ℕ) (i : ℕ) → word_at bytes i ≡ value bytes (4 * i) 4

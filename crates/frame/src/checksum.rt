@@ -11,10 +11,8 @@ pub(crate) fn sum_words(frame: &[u8], count: usize) -> u64
     ensures { result ≡ total (word_at frame.now) count }
 {
     let mut sum: u64 = 0;
-    let mut i: usize = 0;
-    while i < count {
+    for i in 0..count {
         sum += word_at(frame, i) as u64;
-        i += 1;
     }
     sum
 }

@@ -38,18 +38,11 @@ pub const BITS_8: u32 = 256;
 // The values of a field of 16 bits.
 pub const BITS_16: u32 = 65536;
 
-// The word of four bytes, big-endian.
-pub(crate) fn word_of(a: u8, b: u8, c: u8, d: u8) -> u32
-    ensures { result ≡ a * 16777216 + b * 65536 + c * 256 + d }
-{
-    (a as u32) * 16777216 + (b as u32) * 65536 + (c as u32) * 256 + (d as u32)
-}
-
 // Word i of a frame that has it.
 pub(crate) fn word_at(frame: &[u8], i: usize) -> u32
     requires { 4 * i + 4 ≤ length frame.now }
     ensures { result ≡ word_at frame.now i }
 {
     let at = 4 * i;
-    word_of(frame[at], frame[at + 1], frame[at + 2], frame[at + 3])
+    u32::from_be_bytes([frame[at], frame[at + 1], frame[at + 2], frame[at + 3]])
 }

@@ -71,5 +71,5 @@ pub fn payload_of(frame: &[u8]) -> &[u8]
 pub fn next_identification(id: u32) -> u32
     ensures { result ≡ next_identification id }
 {
-    std::num::wrapping_add_u32(id, 1)
+    id.wrapping_add(1)
 }

@@ -1,5 +1,5 @@
 -- `frame::payload_of` meets its contract: an accepted frame has the header and the payload that it states.
-use Rattle.std.proofs.Common.{◌≡◌, ℕ, ◌+◌, ◌-◌, ◌*◌, ◌/◌, ◌%◌, ◌≤◌, List, length, take, drop, sym, ◌∙◌, arith, length-drop, length-take-le, take-take, eq-eqb, ne_eqb}
+use Rattle.std.proofs.Common.{◌≡◌, ℕ, ◌+◌, ◌-◌, ◌*◌, ◌/◌, ◌%◌, ◌≤◌, List, length, take, drop, sym, ◌∙◌, arith, length-drop, length-take-le, take-take, eq-eqb}
 use Rattle.frame.specs.Layout.{word_at}
 use Rattle.frame.proofs.Frames.{accepted_sound}
 use Rattle.frame.proofs.Rows.{DHL_in, payload_in}
@@ -11,11 +11,6 @@ part f a n h = take-take n (length f - a) (drop a f) (omega arith)
 
 part_length : (f : List ℕ) (a n : ℕ) → a + n ≤ length f → n ≡ length (take n (take (length f - a) (drop a f)))
 part_length f a n h = rw (part f a n h) (sym (length-take-le n (drop a f) (omega (arith, length-drop a f))))
-
-pub returns-then-refused-ne0 : goal.returns-then-refused-ne0
-returns-then-refused-ne0 c =
-    let r = c.frame_refusal-refused in
-    rw (← r.ensures, ne_eqb r.result 0 c.if-refused-ne0.true)
 
 pub word_at-first-requires : goal.word_at-first-requires
 word_at-first-requires c =

@@ -2,8 +2,7 @@
 use Rattle.std.proofs.Common.{sym, arith}
 use Rattle.frame.specs.Layout.{word_at}
 use Rattle.frame.proofs.Sums.{total_has, checksum_words}
-use Rattle.words.specs.Words.{Bytes}
-use Rattle.frame.proofs.Words.{word_fits}
+use Rattle.frame.proofs.Words.{bytes_known, word_fits}
 use Rattle.frame.proofs.checksum.checksum_of.Goals as goal
 
 pub overflow_sub-sum_words : goal.overflow_sub-sum_words
@@ -14,6 +13,6 @@ overflow_sub-sum_words c =
 pub returns : goal.returns
 returns c =
     let a = c.args in
-    let bytes : Bytes a.frame.now = record { below = λ i. omega (arith, c.shared_slice_known-1.given i) } in
+    let bytes = bytes_known _ c.type_inv.frame in
     rw (c.complement.ensures, c.sum_words.ensures, c.word_at-third.ensures)
     (sym (checksum_words (word_at a.frame.now) a.count (word_fits a.frame.now bytes) (omega arith)))

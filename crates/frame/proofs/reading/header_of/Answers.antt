@@ -3,8 +3,7 @@ use Rattle.std.proofs.Common.{◌≡◌, ℕ, ◌/◌, ◌%◌, sym, ap, ◌∙�
 use Rattle.frame.specs.Layout.{DHL, flags, words_with, is_pf, value_in, word_at}
 use Rattle.frame.proofs.Frames.{accepted_sound}
 use Rattle.frame.proofs.Rows.{DHL_in, payload_in, flags_in, parts_in, whole_in}
-use Rattle.words.specs.Words.{Bytes}
-use Rattle.frame.proofs.Words.{word_fits}
+use Rattle.frame.proofs.Words.{bytes_known, word_fits}
 use Rattle.frame.proofs.reading.header_of.Goals as goal
 
 pub word_at-first-requires : goal.word_at-first-requires
@@ -51,7 +50,7 @@ proxy_of-proxy-requires c =
 pub returns : goal.returns
 returns c =
     let f = c.args.frame.now in
-    let bytes : Bytes f = record { below = λ i. omega (arith, c.shared_slice_known-1.given i) } in
+    let bytes = bytes_known _ c.type_inv.frame in
     let p = parts_in (word_at f) in
     let w = whole_in (word_at f) (word_fits f bytes) in
     rw (

@@ -1,23 +1,16 @@
 -- `frame::reading::proxy_of` meets its contract: the proxy's row is the last, where there is one.
-use Rattle.std.proofs.Common.{ℕ, ◌-◌, sym, ap, ◌∙◌, arith}
+use Rattle.std.proofs.Common.{ℕ, ◌-◌, sym, ap, ◌∙◌}
 use Rattle.frame.specs.Layout.{words_with, word_at}
-use Rattle.frame.proofs.Rows.{told_fits, proxy_in, no_proxy_in}
-use Rattle.words.specs.Words.{Bytes}
-use Rattle.frame.proofs.Words.{word_fits}
+use Rattle.frame.proofs.Rows.{proxy_in, no_proxy_in}
+use Rattle.frame.proofs.Words.{bytes_known, word_fits}
 use Rattle.frame.proofs.reading.proxy_of.Goals as goal
-
-pub overflow_sub-count : goal.overflow_sub-count
-overflow_sub-count c = let n = told_fits _ _ _ c.requires.1 in omega (arith, n.0)
-
-pub word_at-requires : goal.word_at-requires
-word_at-requires c = let n = told_fits _ _ _ c.requires.1 in omega (arith, n.0, c.requires.0)
 
 pub returns-then-has_proxy : goal.returns-then-has_proxy
 returns-then-has_proxy c =
     let a = c.args in
     let f = a.frame.now in
     let t = c.requires.1 in
-    let bytes : Bytes f = record { below = λ i. omega (arith, c.shared_slice_known-1.given i) } in
+    let bytes = bytes_known _ c.type_inv.frame in
     c.word_at.ensures
     ∙ ap (λ (n : ℕ). word_at f (n - 1)) (t.agrees ∙ ap words_with c.if-has_proxy.true)
     ∙ sym (proxy_in (word_at f) (word_fits f bytes) (sym t.flagged ∙ c.if-has_proxy.true))

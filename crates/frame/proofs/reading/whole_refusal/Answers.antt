@@ -7,7 +7,7 @@ use Rattle.frame.specs.Asks.{Told, addresses_sound, sum_in}
 use Rattle.frame.proofs.Frames.{whole_short, whole_checksum, whole_address, whole_payload, whole_sound}
 use Rattle.frame.proofs.Rows.{told_fits, payload_in, checksum_in, whole_in}
 use Rattle.words.specs.Words.{Bytes}
-use Rattle.frame.proofs.Words.{word_fits}
+use Rattle.frame.proofs.Words.{bytes_known, word_fits}
 use Rattle.frame.proofs.reading.whole_refusal.Goals as goal
 
 -- what is read off the words, in the values' terms
@@ -35,9 +35,6 @@ returns-then-frame-count c =
     let f = c.args.frame.now in
     whole_short (length f) (value_in (word_at f)) (sum_in f) (omega (arith, c.requires.counted, c.if-frame-count.true))
 
-pub word_at-third-requires : goal.word_at-third-requires
-word_at-third-requires c = let n = told_fits _ _ _ c.requires in omega (arith, n.0, c.if-frame-count.false)
-
 pub checksum_of-requires : goal.checksum_of-requires
 checksum_of-requires c =
     let n = told_fits _ _ _ c.requires in
@@ -51,41 +48,23 @@ returns-then-third-checksum_of c =
     whole_checksum (length f) (value_in (word_at f)) (sum_in f) (omega (arith, t.counted, c.if-frame-count.false))
     (λ q. c.if-third-checksum_of.true (sym (checksum_read f a.count _ t _ c.word_at-third.ensures) ∙ q ∙ sym (sum-read f a.count _ t _ c.checksum_of.ensures)))
 
-pub word_at-source-requires : goal.word_at-source-requires
-word_at-source-requires c = let n = told_fits _ _ _ c.requires in omega (arith, n.0, c.if-frame-count.false)
-
-pub word_at-destination-requires : goal.word_at-destination-requires
-word_at-destination-requires c = let n = told_fits _ _ _ c.requires in omega (arith, n.0, c.if-frame-count.false)
-
-pub proxy_of-proxy-requires : goal.proxy_of-proxy-requires
-proxy_of-proxy-requires c = (c.if-frame-count.false, c.requires)
-
 pub returns-then-not-addresses_fit : goal.returns-then-not-addresses_fit
 returns-then-not-addresses_fit c =
     let a = c.args in
     let f = a.frame.now in
     let t = c.requires in
-    let bytes : Bytes f = record { below = λ i. omega (arith, c.shared_slice_known-1.given i) } in
+    let bytes = bytes_known _ c.type_inv.frame in
     let r = c.addresses_fit in
     whole_address (length f) (value_in (word_at f)) (sum_in f) (omega (arith, t.counted, c.if-frame-count.false))
     (checksum_read f a.count _ t _ c.word_at-third.ensures ∙ c.if-third-checksum_of.false ∙ sum-read f a.count _ t _ c.checksum_of.ensures)
     (addresses f a.count _ t bytes _ _ _ c.word_at-source.ensures c.word_at-destination.ensures c.proxy_of-proxy.ensures ∙ sym r.ensures ∙ c.if-not-addresses_fit.true)
-
-pub word_at-first-requires : goal.word_at-first-requires
-word_at-first-requires c = let n = told_fits _ _ _ c.requires in omega (arith, n.0, c.if-frame-count.false)
-
-pub overflow_mul-end : goal.overflow_mul-end
-overflow_mul-end c = let n = told_fits _ _ _ c.requires in omega (arith, n.1)
-
-pub overflow_add-end : goal.overflow_add-end
-overflow_add-end c = let n = told_fits _ _ _ c.requires in omega (arith, n.1)
 
 pub returns-then-frame-end : goal.returns-then-frame-end
 returns-then-frame-end c =
     let a = c.args in
     let f = a.frame.now in
     let t = c.requires in
-    let bytes : Bytes f = record { below = λ i. omega (arith, c.shared_slice_known-1.given i) } in
+    let bytes = bytes_known _ c.type_inv.frame in
     let r = c.addresses_fit in
     whole_payload (length f) (value_in (word_at f)) (sum_in f) (omega (arith, t.counted, c.if-frame-count.false))
     (checksum_read f a.count _ t _ c.word_at-third.ensures ∙ c.if-third-checksum_of.false ∙ sum-read f a.count _ t _ c.checksum_of.ensures)
@@ -97,7 +76,7 @@ returns c =
     let a = c.args in
     let f = a.frame.now in
     let t = c.requires in
-    let bytes : Bytes f = record { below = λ i. omega (arith, c.shared_slice_known-1.given i) } in
+    let bytes = bytes_known _ c.type_inv.frame in
     let r = c.addresses_fit in
     whole_sound (length f) (value_in (word_at f)) (sum_in f) (omega (arith, t.counted, c.if-frame-count.false))
     (checksum_read f a.count _ t _ c.word_at-third.ensures ∙ c.if-third-checksum_of.false ∙ sum-read f a.count _ t _ c.checksum_of.ensures)
