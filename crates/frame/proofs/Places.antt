@@ -34,7 +34,7 @@ places = record {
 }
 
 -- no refusal tells no place, and neither does what is asked before version, DHL and flags or behind them
-none_told : (place_of 0 ≡ 0) × (place_of short_frame ≡ 0)
+pub none_told : (place_of 0 ≡ 0) × (place_of short_frame ≡ 0)
 unfolding place_of place_in
 none_told = (refl, refl)
 

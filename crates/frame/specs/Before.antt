@@ -3,10 +3,9 @@
 use Rattle.std.specs.Prelude.{◌≡◌, ℕ, ◌*◌, true, false, List, [], ◌∷◌, ◌++◌, length, ◌==◌, nat_le}
 use Rattle.combine.specs.Tests.{pick, both, either}
 use Rattle.hall.specs.Refusals.{Ask, in_order, answered, short_frame, bad_version, bad_PF}
-use Rattle.frame.specs.declared.Header.{Header}
 use Rattle.frame.specs.Layout.{version, DHL, flags, front, the_version, words_with, is_pf, value_in, word_at}
 use Rattle.frame.specs.Asks.{asks_whole, sum_in, frame_refusal}
-use Rattle.frame.specs.Reading.{header_of, refused_at, read_frame, behind_header, payload_of}
+use Rattle.frame.specs.Reading.{HeaderAnswer, header_of, refused_at, read_frame, behind_header, payload_of}
 
 -- the number that the four shared
 abbrev pub bad_header : ℕ
@@ -29,7 +28,7 @@ asks_frame_before size values sum =
 unfoldable pub refusal_before : List ℕ → ℕ
 refusal_before frame = in_order (asks_frame_before (length frame) (value_in (word_at frame)) (sum_in frame))
 
-abbrev pub read_before : List ℕ → Header
+abbrev pub read_before : List ℕ → HeaderAnswer
 read_before frame = answered (refusal_before frame) (header_of (value_in (word_at frame))) (λ number. refused_at number 0)
 
 abbrev pub payload_before : List ℕ → List ℕ

@@ -1,15 +1,31 @@
 -- What reading a frame answers: the header's fields, and the payload.
 -- Section "Frame header".
-use Rattle.std.specs.Prelude.{◌≡◌, ℕ, ◌+◌, ◌*◌, ◌%◌, false, List, [], take, drop, ◌==◌}
+use Rattle.std.specs.Prelude.{◌≡◌, ℕ, ◌+◌, ◌*◌, ◌%◌, Bool, false, List, [], take, drop, ◌==◌, Result, is_some, unwrap_or}
 use Rattle.combine.specs.Tests.{pick}
-use Rattle.hall.specs.Refusals.{answered}
+use Rattle.hall.specs.declared.refusals.Fault.{Fault}
+use Rattle.hall.specs.Refusals.{answered, stated_at}
 use Rattle.frame.specs.declared.Header.{Header}
 use Rattle.frame.specs.Layout.{DHL, protocol, payload_length, identification, retry, flags, TTL, source, destination, proxy, is_pf, value_in, word_at}
 use Rattle.frame.specs.Asks.{frame_refusal}
 use Rattle.frame.specs.Places.{place_of}
 
+-- a frame read, by its number and its values
+pub record HeaderAnswer : Type 0 where
+  pub refusal : ℕ
+  pub place : ℕ
+  pub protocol : ℕ
+  pub payload_length : ℕ
+  pub identification : ℕ
+  pub retry : ℕ
+  pub ttl : ℕ
+  pub source : ℕ
+  pub destination : ℕ
+  pub has_proxy : Bool
+  pub proxy : ℕ
+  pub header_length : ℕ
+
 -- the header that values say
-abbrev pub header_of : (ℕ → ℕ) → Header
+abbrev pub header_of : (ℕ → ℕ) → HeaderAnswer
 header_of values =
     record {
       refusal = 0;
@@ -27,7 +43,7 @@ header_of values =
     }
 
 -- a refusal: its number and its place, and zero in every other field
-abbrev pub refused_at : ℕ → ℕ → Header
+abbrev pub refused_at : ℕ → ℕ → HeaderAnswer
 refused_at number place =
     record {
       refusal = number;
@@ -44,12 +60,34 @@ refused_at number place =
       header_length = 0;
     }
 
-abbrev pub refused_header : ℕ → Header
+abbrev pub refused_header : ℕ → HeaderAnswer
 refused_header number = refused_at number (place_of number)
 
 -- a frame read
-abbrev pub read_frame : List ℕ → Header
+abbrev pub read_frame : List ℕ → HeaderAnswer
 read_frame frame = answered (frame_refusal frame) (header_of (value_in (word_at frame))) refused_header
+
+-- the values of a header that is accepted: without a proxy it has 0 there
+abbrev pub header_read : Header → HeaderAnswer
+header_read h =
+    record {
+      refusal = 0;
+      place = 0;
+      protocol = h.protocol;
+      payload_length = h.payload_length;
+      identification = h.identification;
+      retry = h.retry;
+      ttl = h.ttl;
+      source = h.source;
+      destination = h.destination;
+      has_proxy = is_some h.proxy;
+      proxy = unwrap_or h.proxy 0;
+      header_length = h.header_length;
+    }
+
+-- the number, the place and the values of an answer
+abbrev pub header_stated : Result Header Fault → HeaderAnswer
+header_stated = stated_at header_read refused_at
 
 -- a read tells the place of its own number
 abbrev pub PlaceTold : Type 0

@@ -4,7 +4,8 @@ use mathlib.Core.List.{List, [], ◌∷◌}
 use Prim.Native.Nat.{ℕ, ◌-◌, ◌<◌}
 use native.Mathlib.Omega.{arith}
 use lib.ListN.{get_or}
-use Rattle.std.specs.Prelude.{Result, Ok, Err, MatchResult, IsOkAnd}
+use Rattle.std.specs.Prelude.{Result, Ok, Err, MatchResult, IsOkAnd, is_err, true, false}
+use Rattle.combine.proofs.Tests.{never}
 use borrow.Author.Tests.{eq-eqb, ne_eqb}
 use Rattle.hall.specs.declared.refusals.Refusal.{Refusal}
 use Rattle.hall.specs.declared.refusals.Refusal.TheVariants.{BadHall, BadUid, BadRange, BadLength, BadCode, ShortRoom, ShortFrame, BadRetry, BadChecksum, BadSheet, BadAddress, HallFull, BadVersion, BadDhl, BadFlags, BadPf}
@@ -50,6 +51,16 @@ module _ {T : Type 0} (good : T) (refused : ℕ → T) where
   -- and one that is not
   pub answered_good : (number : ℕ) → number ≡ 0 → good ≡ answered number good refused
   answered_good number e = rw (eq-eqb number 0 e)
+
+-- an answer that is no refusal has the number 0
+pub accepted : {A : Type 0} (number : ℕ) (x : Result A Refusal) → refusal_in x ≡ number → is_err x ≡ false → number ≡ 0
+accepted number (Ok a) e f = sym e
+accepted number (Err r) e f = never refl f
+
+-- and one that is a refusal has another
+pub refused : {A : Type 0} (number : ℕ) (x : Result A Refusal) → refusal_in x ≡ number → is_err x ≡ true → number ≡ 0 → ⊥
+refused number (Ok a) e f z = never f refl
+refused number (Err r) e f z = number_not_zero r (e ∙ z)
 
 -- the reasons in the order of their numbers, from 1 on
 reasons : List Refusal

@@ -5,8 +5,8 @@ use Rattle.frame.proofs.Rows.{proxy_in, no_proxy_in}
 use Rattle.frame.proofs.Words.{bytes_known, word_fits}
 use Rattle.frame.proofs.reading.proxy_of.Goals as goal
 
-pub returns-then-has_proxy : goal.returns-then-has_proxy
-returns-then-has_proxy c =
+pub returns-then-has_proxy-clause-number : goal.returns-then-has_proxy-clause-number
+returns-then-has_proxy-clause-number c =
     let a = c.args in
     let f = a.frame.now in
     let t = c.requires.1 in
@@ -15,7 +15,7 @@ returns-then-has_proxy c =
     ∙ ap (λ (n : ℕ). word_at f (n - 1)) (t.agrees ∙ ap words_with c.if-has_proxy.true)
     ∙ sym (proxy_in (word_at f) (word_fits f bytes) (sym t.flagged ∙ c.if-has_proxy.true))
 
-pub returns : goal.returns
-returns c =
+pub returns-clause-number : goal.returns-clause-number
+returns-clause-number c =
     let f = c.args.frame.now in
     sym (no_proxy_in (word_at f) (sym c.requires.1.flagged ∙ c.if-has_proxy.false))

@@ -57,7 +57,7 @@ returns-then-not-addresses_fit c =
     let r = c.addresses_fit in
     whole_address (length f) (value_in (word_at f)) (sum_in f) (omega (arith, t.counted, c.if-frame-count.false))
     (checksum_read f a.count _ t _ c.word_at-third.ensures ∙ c.if-third-checksum_of.false ∙ sum-read f a.count _ t _ c.checksum_of.ensures)
-    (addresses f a.count _ t bytes _ _ _ c.word_at-source.ensures c.word_at-destination.ensures c.proxy_of-proxy.ensures ∙ sym r.ensures ∙ c.if-not-addresses_fit.true)
+    (addresses f a.count _ t bytes _ _ _ c.word_at-source.ensures c.word_at-destination.ensures (c.unwrap_or-proxy.ensures ∙ c.proxy_of.ensures.number) ∙ sym r.ensures ∙ c.if-not-addresses_fit.true)
 
 pub returns-then-frame-end : goal.returns-then-frame-end
 returns-then-frame-end c =
@@ -68,7 +68,7 @@ returns-then-frame-end c =
     let r = c.addresses_fit in
     whole_payload (length f) (value_in (word_at f)) (sum_in f) (omega (arith, t.counted, c.if-frame-count.false))
     (checksum_read f a.count _ t _ c.word_at-third.ensures ∙ c.if-third-checksum_of.false ∙ sum-read f a.count _ t _ c.checksum_of.ensures)
-    (addresses f a.count _ t bytes _ _ _ c.word_at-source.ensures c.word_at-destination.ensures c.proxy_of-proxy.ensures ∙ sym r.ensures ∙ c.if-not-addresses_fit.false)
+    (addresses f a.count _ t bytes _ _ _ c.word_at-source.ensures c.word_at-destination.ensures (c.unwrap_or-proxy.ensures ∙ c.proxy_of.ensures.number) ∙ sym r.ensures ∙ c.if-not-addresses_fit.false)
     (omega (arith, paid f a.count _ t _ c.word_at-first.ensures, c.if-frame-end.true))
 
 pub returns : goal.returns
@@ -80,5 +80,5 @@ returns c =
     let r = c.addresses_fit in
     whole_sound (length f) (value_in (word_at f)) (sum_in f) (omega (arith, t.counted, c.if-frame-count.false))
     (checksum_read f a.count _ t _ c.word_at-third.ensures ∙ c.if-third-checksum_of.false ∙ sum-read f a.count _ t _ c.checksum_of.ensures)
-    (addresses f a.count _ t bytes _ _ _ c.word_at-source.ensures c.word_at-destination.ensures c.proxy_of-proxy.ensures ∙ sym r.ensures ∙ c.if-not-addresses_fit.false)
+    (addresses f a.count _ t bytes _ _ _ c.word_at-source.ensures c.word_at-destination.ensures (c.unwrap_or-proxy.ensures ∙ c.proxy_of.ensures.number) ∙ sym r.ensures ∙ c.if-not-addresses_fit.false)
     (omega (arith, paid f a.count _ t _ c.word_at-first.ensures, c.if-frame-end.false))
