@@ -169,11 +169,6 @@ checksum_words words n fit h =
     omega (arith, l, total_words words n) in
     rw (f, e, folded_words (total (upper words) n) (total (without 2 (lower words)) n), g)
 
--- one word more that fits
-pub fit_more : (words : ℕ → ℕ) (i : ℕ) → ((j : ℕ) → j < i → words j < 4294967296) → words i < 4294967296 → (j : ℕ) → j < i + 1 → words j < 4294967296
-fit_more words i f h j l =
-    cases (eqb j i) (λ q. let e : j ≡ i = eqb-true j i q in rw e h) (λ q. let d = eqb-false j i q in f j (omega arith))
-
 -- words of 32 bits, those that count, whose checksum field is zero have the checksum of their plain sum
 pub plain_sum : (words : ℕ → ℕ) (n : ℕ) → ((i : ℕ) → i < n → words i < 4294967296) → 3 ≤ n → words 2 % 65536 ≡ 0
     → 65535 - folded (total words n) ≡ header_checksum words n

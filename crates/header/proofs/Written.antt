@@ -2,12 +2,17 @@
 use mathlib.Core.Path.{◌≡◌, refl, ◌∙◌, ap, sym}
 use mathlib.Core.Bool.{Bool, true, false}
 use mathlib.Core.List.{List, [], ◌∷◌, ◌++◌}
-use Prim.Native.Nat.{ℕ, ◌+◌, ◌*◌, ◌/◌, ◌≤◌, ◌<◌}
+use Prim.Native.Nat.{ℕ, zero, suc, ◌+◌, ◌*◌, ◌/◌, ◌≤◌, ◌<◌}
+use native.Mathlib.Numerals.{add-one}
 use native.Mathlib.Omega.{arith}
 use lib.Dec.{eqb, leb}
-use lib.ListN.{length, get_or, set, drop}
-use lib.Seq.{get_or-set_same, get_or-set_other}
+use lib.ListN.{length, get_or, set, drop, take}
+use lib.Seq.{get_or-set_same, get_or-set_other, length-take-le, take_all}
 use borrow.Author.Tests.{eqb-true, eqb-false, ne_eqb, le-leb, lt-leb, leb-true, leb-false}
+use Rattle.std.specs.Int.{from_bool}
+use Rattle.std.specs.List.{sum}
+use Rattle.std.proofs.lemmas.List.{get_or-take}
+use Rattle.std.proofs.lemmas.List.Sums.{sum_by_more}
 use Rattle.combine.specs.Tests.{pick}
 use Rattle.combine.specs.Lists.{up_to}
 use Rattle.combine.proofs.Tests.{cases}
@@ -16,10 +21,10 @@ use Rattle.hall.specs.Refusals.{refusal, most_retry}
 use Rattle.rows.specs.Rows.{bits, has, within, joined, laid}
 use Rattle.rows.proofs.Rows.{laid_cong, laid_front, row_within}
 use Rattle.frame.specs.Layout.{retry, flags, TTL, checksum, proxy, more_of, rows_of, words_with, bytes_of}
-use Rattle.frame.specs.Checksum.{checksum_of, header_checksum}
+use Rattle.frame.specs.Checksum.{checksum_of, header_checksum, total}
 use Rattle.frame.specs.Addresses.{addresses_fit}
 use Rattle.frame.proofs.Rows.{words_fit, checksum_row}
-use Rattle.frame.proofs.Sums.{checksum_cong, checksum_upper}
+use Rattle.frame.proofs.Sums.{checksum_cong, checksum_upper, total_none, total_more}
 use Rattle.frame.proofs.Words.{bytes_cong, bytes_length}
 use Rattle.header.specs.declared.Fields.{Fields}
 use Rattle.header.specs.Writing.{rows_for, count_of, values_of, sum_of, sealed, header_words, header_bytes, write_refusal, room_written}
@@ -42,9 +47,24 @@ module _ (b : Bool) (values other : ℕ → ℕ) (same : (f : ℕ) → within f 
   pub sum_same : (n : ℕ) → header_checksum (laid (rows_of b) values) n ≡ header_checksum (laid (rows_of b) other) n
   sum_same n = checksum_upper (laid (rows_of b) values) (laid (rows_of b) other) n (λ i h. same_word i) same_upper
 
+-- the plain sum of the first words of a list, and of all
+total_taken : (ws : List ℕ) (n : ℕ) → n ≤ length ws → total (λ i. get_or ws i 0) n ≡ sum (take n ws)
+total_taken ws zero h = total_none (λ i. get_or ws i 0)
+total_taken ws (suc n) h =
+    rw (← add-one n)
+    (omega (arith, total_more (λ i. get_or ws i 0) n, total_taken ws n (omega arith), sum_by_more (λ x. x) ws n 0 (omega arith)))
+
+pub total_all : (ws : List ℕ) → sum ws ≡ total (λ i. get_or ws i 0) (length ws)
+total_all ws = sym (total_taken ws (length ws) (omega arith) ∙ ap sum (take_all (length ws) ws (omega arith)))
+
 pub sum_fits : (words : ℕ → ℕ) (n : ℕ) → header_checksum words n ≤ 65535
 unfolding header_checksum checksum_of
 sum_fits words n = omega arith
+
+-- a flag as a number
+pub flag_is : (b : Bool) → from_bool b ≡ pick b 1 0
+flag_is true = refl
+flag_is false = refl
 
 pub flag_small : (b : Bool) → pick b 1 0 ≤ 1
 flag_small true = omega arith
@@ -130,6 +150,21 @@ module _ (fields : Fields) where
     pub sum_is : header_checksum (λ i. get_or list i 0) (count_of fields) ≡ sum_of fields
     unfolding sum_of
     sum_is = checksum_cong (λ i. get_or list i 0) (laid (rows_for fields) (values_of fields)) (count_of fields) word_of
+
+    -- as many of them as the header has words
+    pub words_there : (count : ℕ) → count ≡ count_of fields → count ≤ length list
+    words_there count n =
+        let k = words_fit fields.has_proxy in
+        omega (arith, ap length e, length-up_to words (words_with true), longest_many, k.1)
+
+    pub taken_length : (count : ℕ) → count ≡ count_of fields → length (take count list) ≡ count
+    taken_length count n = length-take-le count list (words_there count n)
+
+    pub sum_taken : (count : ℕ) → count ≡ count_of fields
+        → header_checksum (λ i. get_or (take count list) i 0) (length (take count list)) ≡ sum_of fields
+    sum_taken count n =
+        rw (taken_length count n)
+        (checksum_cong (λ i. get_or (take count list) i 0) (λ i. get_or list i 0) count (λ i h. get_or-take count list i 0 h) ∙ rw n sum_is)
 
     third_sealed : header_words fields 2 ≡ words 2 + sum_of fields
     unfolding header_words laid joined bits values_of sealed

@@ -1,5 +1,5 @@
 -- `header::bytes::put_words` meets its contract: the words are the first of the array, and the room has place for their bytes.
-use mathlib.Core.Path.{◌≡◌, sym, ◌∙◌}
+use mathlib.Core.Path.{◌≡◌, ◌∙◌}
 use mathlib.Core.List.{List, ◌++◌}
 use Prim.Native.Nat.{ℕ, ◌*◌, ◌≤◌}
 use native.Mathlib.Omega.{arith}
@@ -18,11 +18,6 @@ taken : (words room : List ℕ) (count : ℕ) → count ≤ length words → 4 *
 taken words room count h k =
     let l : length (words_bytes (take count words)) ≡ 4 * count = omega (arith, words_length (take count words), length-take-le count words h) in
     room_start room (words_bytes (take count words)) (omega arith) ∙ rw (l, bytes_taken words count h)
-
-pub slice_bounds-put_words-end : goal.slice_bounds-put_words-end
-slice_bounds-put_words-end c =
-    let a = c.args in
-    sym (length-take-le a.count a.words (omega arith))
 
 pub returns : goal.returns
 returns c =

@@ -1,25 +1,39 @@
 -- `header::writing::put_header` meets its contract: the words are the header's with the checksum as zero, and with it their bytes are the header's.
-use mathlib.Core.Path.{◌∙◌}
+use mathlib.Core.Path.{sym, ◌∙◌}
 use native.Mathlib.Omega.{arith}
-use lib.ListN.{get_or}
+use lib.ListN.{length, get_or, take}
+use Rattle.std.proofs.lemmas.List.{get_or-take}
 use Rattle.frame.proofs.Rows.{words_fit}
-use Rattle.header.proofs.Written.{flag_small, sum_fits, third_is, third_word, sum_is, bytes_are}
+use Rattle.header.proofs.Written.{flag_small, sum_fits, third_is, third_word, words_there, taken_length, sum_taken, bytes_are}
 use Rattle.header.proofs.writing.put_header.Goals as goal
+
+pub slice_bounds-words-end : goal.slice_bounds-words-end
+slice_bounds-words-end c =
+    let w = c.header_words-words in
+    words_there c.args.fields w.result w.ensures c.count_of-count.result c.count_of-count.ensures
+
+pub slice_bounds-sum_of-end : goal.slice_bounds-sum_of-end
+slice_bounds-sum_of-end c =
+    let w = c.header_words-words in
+    sym (taken_length c.args.fields w.result w.ensures c.count_of-count.result c.count_of-count.ensures)
 
 pub sum_of-requires : goal.sum_of-requires
 sum_of-requires c =
     let f = c.args.fields in
     let n = words_fit f.has_proxy in
     let w = c.header_words-words in
-    let k = c.count_of-count.ensures in
-    (omega (arith, n.0), omega (arith, n.1), omega (arith, third_word f w.result w.ensures, third_is f))
+    let k = c.count_of-count in
+    let l = taken_length f w.result w.ensures k.result k.ensures in
+    let t = get_or-take k.result w.result 2 0 (omega (arith, n.0, k.ensures)) in
+    (omega (arith, n.0, k.ensures), omega (arith, n.1, k.ensures), omega (arith, t, third_word f w.result w.ensures, third_is f))
 
 pub overflow_add-words : goal.overflow_add-words
 overflow_add-words c =
     let f = c.args.fields in
     let w = c.header_words-words in
     let k = c.count_of-count in
-    let s = sum_fits (λ i. get_or w.result i 0) k.result in
+    let t = take k.result w.result in
+    let s = sum_fits (λ i. get_or t i 0) (length t) in
     omega (arith, third_word f w.result w.ensures, third_is f, flag_small f.has_proxy, c.sum_of.ensures, c.requires.0)
 
 pub put_words-requires : goal.put_words-requires
@@ -36,4 +50,4 @@ returns c =
     let s = c.sum_of in
     c.put_words.ensures
     ∙ bytes_are a.fields w.result w.ensures s.result k.result a.room.now
-    (s.ensures ∙ rw k.ensures (sum_is a.fields w.result w.ensures)) k.ensures
+    (s.ensures ∙ sum_taken a.fields w.result w.ensures k.result k.ensures) k.ensures
