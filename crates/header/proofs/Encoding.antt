@@ -11,7 +11,7 @@ use Rattle.combine.specs.Tests.{pick}
 use Rattle.combine.proofs.Tests.{cases}
 use Rattle.rows.specs.Rows.{Row, within, laid, value_by, Each}
 use Rattle.rows.proofs.Rows.{laid_cong, laid_value, row_within, each_field}
-use Rattle.frame.specs.declared.Header.{Header}
+use Rattle.frame.specs.Reading.{HeaderAnswer}
 use Rattle.frame.specs.Layout.{DHL, flags, checksum, more_of, rows_of, words_with, is_pf, value_in, word_at}
 use Rattle.frame.specs.Checksum.{header_checksum}
 use Rattle.frame.specs.Asks.{frame_refusal}
@@ -125,4 +125,4 @@ module _ (frame : List ℕ) (fit : Bytes frame) (e : frame_refusal frame ≡ 0) 
 -- two accepted headers with equal fields are equal bytes
 pub equal_fields : (frame other : List ℕ) → Bytes frame → Bytes other → frame_refusal frame ≡ 0 → frame_refusal other ≡ 0 → read_frame frame ≡ read_frame other
     → take (read_frame frame).header_length frame ≡ take (read_frame other).header_length other
-equal_fields frame other f g p q e = one_encoding frame f p ∙ ap (λ (h : Header). header_bytes (fields_of h)) e ∙ sym (one_encoding other g q)
+equal_fields frame other f g p q e = one_encoding frame f p ∙ ap (λ (h : HeaderAnswer). header_bytes (fields_of h)) e ∙ sym (one_encoding other g q)

@@ -4,7 +4,7 @@ use Rattle.std.specs.Prelude.{ℕ, ◌*◌, ◌<◌, List, [], ◌∷◌, ◌++�
 use Rattle.combine.specs.Tests.{pick}
 use Rattle.hall.specs.Refusals.{refusal, bad_retry, bad_address, short_room, most_retry}
 use Rattle.rows.specs.Rows.{Row, laid}
-use Rattle.frame.specs.declared.Header.{Header}
+use Rattle.frame.specs.Reading.{HeaderAnswer}
 use Rattle.frame.specs.Layout.{checksum, the_version, rows_of, words_with, bytes_of}
 use Rattle.frame.specs.Checksum.{header_checksum}
 use Rattle.frame.specs.Addresses.{addresses_fit}
@@ -77,7 +77,7 @@ room_written fields room =
     pick (eqb (write_refusal fields room) 0) (header_bytes fields ++ drop (4 * count_of fields) room) room
 
 -- what reading answers of a header that is written
-abbrev pub header_for : Fields → Header
+abbrev pub header_for : Fields → HeaderAnswer
 header_for fields =
     record {
       refusal = 0;
@@ -95,7 +95,7 @@ header_for fields =
     }
 
 -- what writing is given for a header that was read
-abbrev pub fields_of : Header → Fields
+abbrev pub fields_of : HeaderAnswer → Fields
 fields_of header =
     record {
       protocol = header.protocol;
