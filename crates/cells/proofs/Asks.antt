@@ -1,10 +1,10 @@
 -- What the calls refuse, and what is known where nothing is refused: by the laws of asks that stand in the order of refusals.
-use mathlib.Core.Path.{◌≡◌, refl, sym, ◌∙◌}
+use mathlib.Core.Path.{◌≡◌, refl, ap}
 use mathlib.Core.Bool.{true, false, not}
 use mathlib.Core.List.{[], ◌∷◌}
 use Prim.Native.Nat.{ℕ, ◌-◌, ◌<◌, ◌≤◌}
 use lib.Dec.{eqb, leb, ltb}
-use borrow.Author.Tests.{eq-eqb, ne_eqb, eqb-false, not-true, ltb-true, lt-ltb, leb-true, le-leb, lt-leb}
+use borrow.Author.Tests.{eqb-false, not-true, ltb-true, lt-ltb, leb-true, le-leb, lt-leb}
 use Rattle.combine.specs.Tests.{pick, both}
 use Rattle.combine.proofs.Tests.{both_left, both_right, both_false}
 use Rattle.hall.specs.declared.Hall.{Hall}
@@ -13,14 +13,7 @@ use Rattle.hall.specs.Halls.{valid, servers, asks_hall, asks_uid, asks_level}
 use Rattle.hall.specs.Cells.{g, neighbour}
 use Rattle.hall.proofs.Asks.{Hold, unrefused_hold, refused_before, decided_after}
 use Rattle.hall.proofs.Growth.{Valid, valid_known}
-use Rattle.cells.specs.Answers.{neighbour_of, subcells_fit, asks_link}
-
--- the test of an answer, where a call has worked out its refusal
-pub refused_test : {r m : ℕ} → r ≡ m → (r ≡ 0 → ⊥) → eqb m 0 ≡ false
-refused_test {r} {m} e d = ne_eqb m 0 (λ z. d (e ∙ z))
-
-pub sound_test : {r m : ℕ} → r ≡ m → r ≡ 0 → eqb m 0 ≡ true
-sound_test {r} {m} e z = eq-eqb m 0 (sym e ∙ z)
+use Rattle.cells.specs.Answers.{NeighbourAnswer, neighbour_of, subcells_fit, asks_link}
 
 -- what is known where nothing is refused
 pub record SoundUid (h : Hall) (u : ℕ) : Type 0 where
@@ -102,6 +95,10 @@ link_known h u i p q e =
     }
 
 -- what the neighbour call answers where nothing is refused
-pub neighbour_told : (h : Hall) (u i : ℕ) → valid h ≡ true → u < servers h → 0 < i → i ≤ h.k → (neighbour_of h u i).uid ≡ neighbour h.n (i - 1) u
-unfolding refusal
-neighbour_told h u i v l low high = rw (v, lt-ltb u (servers h) l, le-leb 1 i low, le-leb i h.k high)
+module _ (h : Hall) (u i : ℕ) (v : valid h ≡ true) (l : u < servers h) (low : 0 < i) (high : i ≤ h.k) where
+  pub neighbour_sound : neighbour_of h u i ≡ record { refusal = 0; uid = neighbour h.n (i - 1) u }
+  unfolding refusal
+  neighbour_sound = rw (v, lt-ltb u (servers h) l, le-leb 1 i low, le-leb i h.k high)
+
+  pub neighbour_told : (neighbour_of h u i).uid ≡ neighbour h.n (i - 1) u
+  neighbour_told = ap (λ (a : NeighbourAnswer). a.uid) neighbour_sound

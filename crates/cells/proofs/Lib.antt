@@ -1,3 +1,4 @@
 -- The laws.
 pub mod Asks
+pub mod Stated
 pub mod Wide

@@ -6,164 +6,110 @@ mod joined;
 
 ghost use Rattle.std.specs.Prelude.{true, ◌≡◌, [], ◌∷◌, ◌≤◌, ◌<◌};
 ghost use Rattle.combine.specs.Lists.{up_to};
-ghost use Rattle.hall.specs.Refusals.{refusal};
+ghost use Rattle.hall.specs.Refusals.{refusal, refusal_in};
 ghost use Rattle.hall.specs.Halls.{places, Sized, asks_hall, asks_uid, asks_level};
 ghost use Rattle.hall.specs.Tuples.{entry_fits, tuple_fits, uid_up_to, tuple};
 ghost use Rattle.hall.specs.Answers.{size_at};
-ghost use Rattle.cells.specs.Answers.{uid_of, tuple_of, cell_around, neighbour_of, asks_link, link_between};
+ghost use Rattle.cells.specs.Answers.{uid_of, uid_stated, tuple_of, tuple_stated, cell_around, cell_stated, neighbour_of, neighbour_stated, asks_link, link_between, link_stated};
 
 use crate::joined::{ends_over, neighbour_over};
-use hall::refusals::{BAD_HALL, BAD_RANGE, BAD_UID};
+use hall::refusals::Refusal;
 use hall::{Hall, PLACES, TOP};
-
-// The uid of a tuple.
-#[derive(Clone, Copy)]
-pub struct Uid {
-    pub refusal: u32,
-    pub uid: u32,
-}
-
-// The tuple of a uid: place i holds a(i), zeros above k.
-#[derive(Clone, Copy)]
-pub struct Tuple {
-    pub refusal: u32,
-    pub entries: [u32; PLACES],
-}
 
 // The DCell around a server: its first uid, and its servers.
 #[derive(Clone, Copy)]
 pub struct Cell {
-    pub refusal: u32,
     pub first: u32,
     pub count: u32,
-}
-
-// The neighbour of a server at a level.
-#[derive(Clone, Copy)]
-pub struct Neighbour {
-    pub refusal: u32,
-    pub uid: u32,
 }
 
 // The link between two sub-cells, both ends as hall uids.
 #[derive(Clone, Copy)]
 pub struct Link {
-    pub refusal: u32,
     pub from: u32,
     pub to: u32,
 }
 
-// The refusal for a hall and a uid, 0 for none.
-fn refused_uid(h: Hall, uid: u32) -> u32
-    ensures { result ≡ refusal (asks_hall h ∷ asks_uid h uid ∷ []) }
+// What is refused of a hall and a uid.
+fn refused_uid(h: Hall, uid: u32) -> Result<(), Refusal>
+    ensures { refusal_in result ≡ refusal (asks_hall h ∷ asks_uid h uid ∷ []) }
 {
     let servers = hall::servers_of(h);
     if servers == 0 {
-        return BAD_HALL;
+        return Err(Refusal::BadHall);
     }
     if servers <= uid {
-        return BAD_UID;
+        return Err(Refusal::BadUid);
     }
-    0
+    Ok(())
 }
 
-// The refusal for a hall, a uid and a level from `lowest` on, 0 for none.
-fn refused_level(h: Hall, uid: u32, lowest: u32, level: u32) -> u32
-    ensures { result ≡ refusal (asks_hall h ∷ asks_uid h uid ∷ asks_level h lowest level ∷ []) }
+// What is refused of a hall, a uid and a level from `lowest` on.
+fn refused_level(h: Hall, uid: u32, lowest: u32, level: u32) -> Result<(), Refusal>
+    ensures { refusal_in result ≡ refusal (asks_hall h ∷ asks_uid h uid ∷ asks_level h lowest level ∷ []) }
 {
-    let refused = refused_uid(h, uid);
-    if refused != 0 {
-        return refused;
-    }
+    refused_uid(h, uid)?;
     if level < lowest {
-        return BAD_RANGE;
+        return Err(Refusal::BadRange);
     }
     if h.k < level {
-        return BAD_RANGE;
+        return Err(Refusal::BadRange);
     }
-    0
+    Ok(())
 }
 
 // The DCell of a level around a server.
-pub fn cell_around(h: Hall, uid: u32, level: u32) -> Cell
-    ensures { result ≡ cell_around h uid level }
+pub fn cell_around(h: Hall, uid: u32, level: u32) -> Result<Cell, Refusal>
+    ensures { cell_stated result ≡ cell_around h uid level }
 {
-    let refused = refused_level(h, uid, 0, level);
-    if refused != 0 {
-        return Cell {
-            refusal: refused,
-            first: 0,
-            count: 0,
-        };
-    }
+    refused_level(h, uid, 0, level)?;
     let count = hall::size_of(h, level);
-    Cell {
-        refusal: 0,
+    Ok(Cell {
         first: uid / count * count,
         count,
-    }
+    })
 }
 
 // The neighbour of a server at a level.
-pub fn neighbour_of(h: Hall, uid: u32, level: u32) -> Neighbour
-    ensures { result ≡ neighbour_of h uid level }
+pub fn neighbour_of(h: Hall, uid: u32, level: u32) -> Result<u32, Refusal>
+    ensures { neighbour_stated result ≡ neighbour_of h uid level }
 {
-    let refused = refused_level(h, uid, 1, level);
-    if refused != 0 {
-        return Neighbour {
-            refusal: refused,
-            uid: 0,
-        };
-    }
+    refused_level(h, uid, 1, level)?;
     let joined = neighbour_over(hall::size_of(h, level - 1), uid);
-    Neighbour {
-        refusal: 0,
-        uid: joined as u32,
-    }
+    Ok(joined as u32)
 }
 
-// The refusal for the link between the sub-cells p and q, 0 for none.
-fn refused_link(h: Hall, uid: u32, level: u32, p: u32, q: u32) -> u32
-    ensures { result ≡ refusal (asks_link h uid level p q) }
+// What is refused of the link between the sub-cells p and q.
+fn refused_link(h: Hall, uid: u32, level: u32, p: u32, q: u32) -> Result<(), Refusal>
+    ensures { refusal_in result ≡ refusal (asks_link h uid level p q) }
 {
-    let refused = refused_level(h, uid, 1, level);
-    if refused != 0 {
-        return refused;
-    }
+    refused_level(h, uid, 1, level)?;
     let size = hall::size_of(h, level - 1);
     if size < p {
-        return BAD_RANGE;
+        return Err(Refusal::BadRange);
     }
     if size < q {
-        return BAD_RANGE;
+        return Err(Refusal::BadRange);
     }
     if p == q {
-        return BAD_RANGE;
+        return Err(Refusal::BadRange);
     }
-    0
+    Ok(())
 }
 
 // The link between the sub-cells p and q of the DCell of a level around a server, the end in p first.
-pub fn link_between(h: Hall, uid: u32, level: u32, p: u32, q: u32) -> Link
-    ensures { result ≡ link_between h uid level p q }
+pub fn link_between(h: Hall, uid: u32, level: u32, p: u32, q: u32) -> Result<Link, Refusal>
+    ensures { link_stated result ≡ link_between h uid level p q }
 {
-    let refused = refused_link(h, uid, level, p, q);
-    if refused != 0 {
-        return Link {
-            refusal: refused,
-            from: 0,
-            to: 0,
-        };
-    }
+    refused_link(h, uid, level, p, q)?;
     let size = hall::size_of(h, level - 1);
     let count = (size + 1) * size;
     let first = uid / count * count;
     let ends = ends_over(size, first + p * size, first + q * size);
-    Link {
-        refusal: 0,
+    Ok(Link {
         from: ends.near as u32,
         to: ends.far as u32,
-    }
+    })
 }
 
 // Whether a place of a tuple is within its limit, and 0 above k.
@@ -216,27 +162,14 @@ fn uid_up_to(n: u32, k: u32, entries: [u32; PLACES]) -> u32
 }
 
 // The uid of a tuple.
-pub fn uid_of(h: Hall, entries: [u32; PLACES]) -> Uid
-    ensures { result ≡ uid_of h entries }
+pub fn uid_of(h: Hall, entries: [u32; PLACES]) -> Result<u32, Refusal>
+    ensures { uid_stated result ≡ uid_of h entries }
 {
-    let sizes = hall::sizes_of(h);
-    if sizes.refusal != 0 {
-        return Uid {
-            refusal: sizes.refusal,
-            uid: 0,
-        };
+    let sizes = hall::sizes_of(h)?;
+    if !tuple_fits(h.n, h.k, sizes, entries) {
+        return Err(Refusal::BadRange);
     }
-    let t = sizes.t;
-    if !tuple_fits(h.n, h.k, t, entries) {
-        return Uid {
-            refusal: BAD_RANGE,
-            uid: 0,
-        };
-    }
-    Uid {
-        refusal: 0,
-        uid: uid_up_to(h.n, h.k, entries),
-    }
+    Ok(uid_up_to(h.n, h.k, entries))
 }
 
 // The entries of a uid up to level k, zeros above.
@@ -259,19 +192,10 @@ fn entries_up_to(n: u32, k: u32, uid: u32) -> [u32; PLACES]
     entries
 }
 
-// The tuple of a uid.
-pub fn tuple_of(h: Hall, uid: u32) -> Tuple
-    ensures { result ≡ tuple_of h uid }
+// The tuple of a uid: place i holds a(i), zeros above k.
+pub fn tuple_of(h: Hall, uid: u32) -> Result<[u32; PLACES], Refusal>
+    ensures { tuple_stated result ≡ tuple_of h uid }
 {
-    let number = refused_uid(h, uid);
-    if number != 0 {
-        return Tuple {
-            refusal: number,
-            entries: [0u32; PLACES],
-        };
-    }
-    Tuple {
-        refusal: 0,
-        entries: entries_up_to(h.n, h.k, uid),
-    }
+    refused_uid(h, uid)?;
+    Ok(entries_up_to(h.n, h.k, uid))
 }

@@ -12,8 +12,8 @@ use Rattle.cells.specs.Answers.{ends_over}
 use Rattle.hall.proofs.Growth.{g_at, t_next, valid_pos, valid_size, uid_fits, size_of_lem}
 use Rattle.hall.proofs.Place.{place_up, place_sub}
 use Rattle.hall.proofs.Links.{end_in}
-use Rattle.cells.proofs.Asks.{SoundLink, link_known, refused_test, sound_test}
-use Rattle.cells.proofs.link_between.Goals.{After-ends_over-ends, After-size_of-size, Else-refused-ne0}
+use Rattle.cells.proofs.Asks.{SoundLink, link_known}
+use Rattle.cells.proofs.link_between.Goals.{After-ends_over-ends, After-size_of-size, In_ok-refused_link}
 use Rattle.cells.proofs.link_between.Goals as goal
 
 -- the first server of sub-cell p is in the cell around u, and in sub-cell p
@@ -74,8 +74,8 @@ end_fits h u i p q x y r k hx hy d e =
     let b = end_in h.n (omega (arith, v.n_low)) (i - 1) h.k u x y (omega (arith, k.level.low, k.level.high)) k.level.below (omega arith) (omega arith) d in
     omega (arith, valid_size h v h.k (omega arith))
 
-known : (c : Else-refused-ne0) → let a = c.args in SoundLink a.h a.uid a.level a.p a.q
-known c = link_known _ _ _ _ _ (sym c.refused_link-refused.ensures ∙ c.if-refused-ne0.false)
+known : (c : In_ok-refused_link) → let a = c.args in SoundLink a.h a.uid a.level a.p a.q
+known c = link_known _ _ _ _ _ (sym c.in_ok-refused_link.ensures)
 
 sized : (c : After-size_of-size) → let a = c.args in Size a.h a.uid a.level a.p a.q c.size_of-size.result
 sized c =
@@ -87,11 +87,8 @@ ends : (c : After-ends_over-ends) → let a = c.args in
 ends c = let a = c.args in
     is_link_lem a.h a.uid a.level a.p a.q _ (sized c.before) c.ends_over-ends.result c.ends_over-ends.ensures
 
-pub returns-then-refused-ne0 : goal.returns-then-refused-ne0
-returns-then-refused-ne0 c = let r = c.refused_link-refused in rw (refused_test r.ensures c.if-refused-ne0.true, ← r.ensures)
-
 pub overflow_sub-level : goal.overflow_sub-level
-overflow_sub-level c = omega (arith, (known (goal.at.overflow_sub-level c).Else-refused-ne0).level.low)
+overflow_sub-level c = omega (arith, (known (goal.at.overflow_sub-level c).In_ok-refused_link).level.low)
 
 pub overflow_add-count : goal.overflow_add-count
 overflow_add-count c = omega (arith, (sized (goal.at.overflow_add-count c).After-size_of-size).whole)
@@ -101,9 +98,6 @@ overflow_mul-count c = omega (arith, (sized (goal.at.overflow_mul-count c).After
 
 pub nonzero_div-first : goal.nonzero_div-first
 nonzero_div-first c = omega (arith, (sized (goal.at.nonzero_div-first c).After-size_of-size).positive)
-
-pub overflow_mul-first : goal.overflow_mul-first
-overflow_mul-first c = omega (arith, (sized (goal.at.overflow_mul-first c).After-size_of-size).first)
 
 pub overflow_mul-p : goal.overflow_mul-p
 overflow_mul-p c = omega (arith, (sized (goal.at.overflow_mul-p c).After-size_of-size).p_first)
@@ -120,17 +114,17 @@ overflow_add-first-2 c = let z = sized (goal.at.overflow_add-first-2 c).After-si
 pub overflow_cast-result : goal.overflow_cast-result
 overflow_cast-result c =
     let a = c.args in
-    let k = known (goal.at.overflow_cast-result c).Else-refused-ne0 in
+    let k = known (goal.at.overflow_cast-result c).In_ok-refused_link in
     let f = end_fits a.h a.uid a.level a.p a.q a.p a.q _ k k.p_below k.q_below k.apart (ends (goal.at.overflow_cast-result c).After-ends_over-ends).0 in
     omega arith
 
 pub overflow_cast-result-2 : goal.overflow_cast-result-2
 overflow_cast-result-2 c =
     let a = c.args in
-    let k = known (goal.at.overflow_cast-result-2 c).Else-refused-ne0 in
+    let k = known (goal.at.overflow_cast-result-2 c).In_ok-refused_link in
     let f = end_fits a.h a.uid a.level a.p a.q a.q a.p _ k k.q_below k.p_below (λ z. k.apart (sym z)) (ends (goal.at.overflow_cast-result-2 c).After-ends_over-ends).1 in
     omega arith
 
 pub returns : goal.returns
 returns c =
-    rw (sound_test c.refused_link-refused.ensures c.if-refused-ne0.false, (ends (goal.at.returns c).After-ends_over-ends).0, (ends (goal.at.returns c).After-ends_over-ends).1)
+    rw (← c.in_ok-refused_link.ensures, (ends (goal.at.returns c).After-ends_over-ends).0, (ends (goal.at.returns c).After-ends_over-ends).1)

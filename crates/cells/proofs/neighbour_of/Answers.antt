@@ -7,12 +7,12 @@ use Rattle.hall.specs.Cells.{t, neighbour_over, neighbour}
 use Rattle.hall.specs.Halls.{servers}
 use Rattle.hall.proofs.Growth.{valid_size, size_of_lem}
 use Rattle.hall.proofs.Links.{neighbour_in}
-use Rattle.cells.proofs.Asks.{SoundLevel, level_known, refused_test, sound_test}
-use Rattle.cells.proofs.neighbour_of.Goals.{After-neighbour_over-joined, After-size_of, Else-refused-ne0}
+use Rattle.cells.proofs.Asks.{SoundLevel, level_known}
+use Rattle.cells.proofs.neighbour_of.Goals.{After-neighbour_over-joined, After-size_of, In_ok-refused_level}
 use Rattle.cells.proofs.neighbour_of.Goals as goal
 
-known : (c : Else-refused-ne0) → let a = c.args in SoundLevel a.h a.uid 1 a.level
-known c = level_known _ _ _ _ (sym c.refused_level-refused.ensures ∙ c.if-refused-ne0.false)
+known : (c : In_ok-refused_level) → let a = c.args in SoundLevel a.h a.uid 1 a.level
+known c = level_known _ _ _ _ (sym c.in_ok-refused_level.ensures)
 
 sized : (c : After-size_of) → let a = c.args in c.size_of.result ≡ t a.h.n (a.level - 1)
 sized c = let k = known c.before in size_of_lem _ _ _ k.sound (omega (arith, k.high)) c.size_of.ensures
@@ -32,17 +32,14 @@ joined : (c : After-neighbour_over-joined) → let a = c.args in c.neighbour_ove
 joined c = let a = c.args in
     is_neighbour a.h.n a.uid a.level _ _ (sized c.before) c.neighbour_over-joined.ensures
 
-pub returns-then-refused-ne0 : goal.returns-then-refused-ne0
-returns-then-refused-ne0 c = let r = c.refused_level-refused in rw (refused_test r.ensures c.if-refused-ne0.true, ← r.ensures)
-
 pub overflow_sub-level : goal.overflow_sub-level
-overflow_sub-level c = omega (arith, (known (goal.at.overflow_sub-level c).Else-refused-ne0).low)
+overflow_sub-level c = omega (arith, (known (goal.at.overflow_sub-level c).In_ok-refused_level).low)
 
 pub overflow_cast-result : goal.overflow_cast-result
 overflow_cast-result c =
     let a = c.args in
-    let f = fits a.h a.uid a.level _ (known (goal.at.overflow_cast-result c).Else-refused-ne0) (joined (goal.at.overflow_cast-result c).After-neighbour_over-joined) in
+    let f = fits a.h a.uid a.level _ (known (goal.at.overflow_cast-result c).In_ok-refused_level) (joined (goal.at.overflow_cast-result c).After-neighbour_over-joined) in
     omega arith
 
 pub returns : goal.returns
-returns c = rw (sound_test c.refused_level-refused.ensures c.if-refused-ne0.false, joined (goal.at.returns c).After-neighbour_over-joined)
+returns c = rw (← c.in_ok-refused_level.ensures, joined (goal.at.returns c).After-neighbour_over-joined)
