@@ -1,4 +1,5 @@
 -- The laws.
 pub mod Asks
+pub mod Ranges
 pub mod Stated
 pub mod Wide

@@ -14,7 +14,7 @@ ghost use Rattle.cells.specs.Answers.{uid_of, uid_stated, tuple_of, tuple_stated
 
 use crate::joined::{ends_over, neighbour_over};
 use hall::refusals::Refusal;
-use hall::{Hall, PLACES, TOP};
+use hall::{Hall, PLACES};
 
 // The DCell around a server: its first uid, and its servers.
 #[derive(Clone, Copy)]
@@ -113,20 +113,18 @@ pub fn link_between(h: Hall, uid: u32, level: u32, p: u32, q: u32) -> Result<Lin
 }
 
 // Whether a place of a tuple is within its limit, and 0 above k.
-fn entry_fits(n: u32, k: u32, sizes: [u32; PLACES], entries: [u32; PLACES], i: u32) -> bool
+fn entry_fits(n: u32, k: u32, sizes: [u32; PLACES], entries: [u32; PLACES], i: usize) -> bool
     requires { Sized n k × (sizes ≡ up_to (size_at n k) places) × (i < places) }
     ensures { result ≡ entry_fits n k entries i }
 {
-    let at = i as usize;
-    let entry = entries[at];
-    if k < i {
+    let entry = entries[i];
+    if (k as usize) < i {
         return entry == 0;
     }
     if i == 0 {
         return entry < n;
     }
-    let below = (i - 1) as usize;
-    entry < sizes[below] + 1
+    entry < sizes[i - 1] + 1
 }
 
 // Whether every place of a tuple is within its limit.
@@ -134,14 +132,7 @@ fn tuple_fits(n: u32, k: u32, sizes: [u32; PLACES], entries: [u32; PLACES]) -> b
     requires { Sized n k × (sizes ≡ up_to (size_at n k) places) }
     ensures { result ≡ tuple_fits n k entries }
 {
-    let mut i: u32 = 0;
-    while i <= TOP {
-        if !entry_fits(n, k, sizes, entries, i) {
-            return false;
-        }
-        i += 1;
-    }
-    true
+    (0..PLACES).all(|i| entry_fits(n, k, sizes, entries, i))
 }
 
 // The uid of a tuple that fits.
@@ -151,12 +142,9 @@ fn uid_up_to(n: u32, k: u32, entries: [u32; PLACES]) -> u32
 {
     let mut uid = entries[0];
     let mut s = n;
-    let mut i: u32 = 0;
-    while i < k {
-        let at = (i + 1) as usize;
-        uid = uid + entries[at] * s;
+    for entry in &entries[1..=k as usize] {
+        uid += entry * s;
         s = (s + 1) * s;
-        i += 1;
     }
     uid
 }
@@ -181,13 +169,10 @@ fn entries_up_to(n: u32, k: u32, uid: u32) -> [u32; PLACES]
     entries[0] = uid % n;
     let mut cell = uid / n;
     let mut s = n;
-    let mut i: u32 = 0;
-    while i < k {
-        let at = (i + 1) as usize;
-        entries[at] = cell % (s + 1);
-        cell = cell / (s + 1);
+    for i in 0..k as usize {
+        entries[i + 1] = cell % (s + 1);
+        cell /= s + 1;
         s = (s + 1) * s;
-        i += 1;
     }
     entries
 }

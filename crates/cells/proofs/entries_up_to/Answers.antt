@@ -5,10 +5,10 @@ use mathlib.Core.List.{List}
 use Prim.Native.Nat.{ℕ, ◌+◌, ◌/◌, ◌%◌, ◌≤◌, ◌<◌}
 use native.Mathlib.Numerals.{add-one}
 use native.Mathlib.Omega.{arith}
-use lib.ListN.{length, replicate, set}
+use lib.ListN.{replicate, set}
 use borrow.Author.Tests.{le-leb, lt-leb}
 use Rattle.combine.specs.Lists.{up_to}
-use Rattle.combine.proofs.Lists.{up_more, up_zeros, length_up}
+use Rattle.combine.proofs.Lists.{up_more, up_zeros}
 use Rattle.hall.specs.Cells.{t, cell}
 use Rattle.hall.specs.Halls.{places, largest}
 use Rattle.hall.specs.Tuples.{entry, entry_at}
@@ -25,9 +25,6 @@ entry_at_lem n k u i h = rw (le-leb i k h)
 above : (n k u i : ℕ) → k < i → entry_at n k u i ≡ 0
 unfolding entry_at
 above n k u i h = rw (lt-leb i k h)
-
-long : (n k u i : ℕ) (a : List ℕ) → i ≤ places → Filled n k u i a → length a ≡ places
-long n k u i a h e = rw e (length_up (entry_at n k u) (replicate places 0) i h)
 
 first : (n k u : ℕ) → Filled n k u 1 (set (replicate places 0) 0 (u % n))
 unfolding up_to entry entry_at
@@ -48,13 +45,10 @@ size_fits c = omega (arith, t_fits _ _ c.loop-i.i c.requires.1 (omega arith))
 
 pub loop-i-init : goal.loop-i-init
 unfolding t cell
-loop-i-init c = (omega arith, refl, refl, first _ _ _)
+loop-i-init c = (refl, refl, first _ _ _)
 
 pub overflow_add-entries : goal.overflow_add-entries
 overflow_add-entries c = omega (arith, size_fits (goal.at.overflow_add-entries c).In-loop-i)
-
-pub bounds-entries-at : goal.bounds-entries-at
-bounds-entries-at c = let w = c.loop-i in omega (arith, long _ _ _ (w.i + 1) w.entries (omega arith) w.invariant.3)
 
 pub overflow_add-cell : goal.overflow_add-cell
 overflow_add-cell c = omega (arith, size_fits (goal.at.overflow_add-cell c).In-loop-i)
@@ -63,20 +57,19 @@ pub overflow_add-s : goal.overflow_add-s
 overflow_add-s c = omega (arith, size_fits (goal.at.overflow_add-s c).In-loop-i)
 
 pub overflow_mul-s : goal.overflow_mul-s
-overflow_mul-s c = omega (arith, next_fits _ _ c.loop-i.i c.loop-i.s c.requires.1 (omega arith) c.loop-i.invariant.1)
+overflow_mul-s c = omega (arith, next_fits _ _ c.loop-i.i c.loop-i.s c.requires.1 (omega arith) c.loop-i.invariant.0)
 
 pub loop-i-preserved : goal.loop-i-preserved
 loop-i-preserved c =
     let w = c.loop-i in
     let a = c.args in (
-      omega arith,
-      t_next _ _ _ w.invariant.1,
-      up a.n a.uid w.i w.s w.cell w.invariant.1 w.invariant.2,
-      store _ _ _ (w.i + 1) _ w.entries (omega arith) (next a.n a.k a.uid w.i w.s w.cell (omega arith) w.invariant.1 w.invariant.2) w.invariant.3,
+      t_next _ _ _ w.invariant.0,
+      up a.n a.uid w.i w.s w.cell w.invariant.0 w.invariant.1,
+      store _ _ _ (w.i + 1) _ w.entries (omega arith) (next a.n a.k a.uid w.i w.s w.cell (omega arith) w.invariant.0 w.invariant.1) w.invariant.2,
     )
 
 pub returns : goal.returns
 returns c =
     let w = c.loop-i in
     let a = c.args in
-    w.invariant.3 ∙ up_zeros (entry_at a.n a.k a.uid) (w.i + 1) places (omega arith) (λ i l _. above a.n a.k a.uid i (omega arith))
+    w.invariant.2 ∙ up_zeros (entry_at a.n a.k a.uid) (w.i + 1) places (omega arith) (λ i l _. above a.n a.k a.uid i (omega arith))

@@ -2,7 +2,7 @@
 -- the next entry is its remainder.
 use mathlib.Core.Path.{◌≡◌}
 use mathlib.Core.List.{List, ◌++◌}
-use Prim.Native.Nat.{ℕ, ◌+◌, ◌-◌, ◌≤◌}
+use Prim.Native.Nat.{ℕ, ◌+◌}
 use lib.ListN.{drop, replicate}
 use Rattle.combine.specs.Lists.{up_to}
 use Rattle.hall.specs.Cells.{t, cell}
@@ -15,7 +15,4 @@ abbrev pub Filled : ℕ → ℕ → ℕ → ℕ → List ℕ → Type 0
 Filled n k u i a = a ≡ up_to (entry_at n k u) i ++ drop i (replicate places 0)
 
 abbrev pub invariant-loop-i : goal.invariant-loop-i
-invariant-loop-i l = (l.i ≤ l.k) × (l.s ≡ t l.n l.i) × (l.cell ≡ cell l.n l.i l.uid) × Filled l.n l.k l.uid (l.i + 1) l.entries
-
-abbrev pub decreases-loop-i : goal.decreases-loop-i
-decreases-loop-i l = l.k - l.i
+invariant-loop-i l = (l.s ≡ t l.n l.i) × (l.cell ≡ cell l.n l.i l.uid) × Filled l.n l.k l.uid (l.i + 1) l.entries
