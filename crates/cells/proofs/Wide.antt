@@ -1,14 +1,14 @@
--- Sums and products of a place fit 64 bits where the size and the uid fit 32: a cell's first uid is at most the uid, and what is added
--- to it is below (T + 1) * T. A cell and a sub-cell may be read off the server's sub-cell by one division each.
+-- A cell and a sub-cell may be read off the server's sub-cell by one division each, and what is added to a cell's first uid fits 64 bits
+-- where the size fits 32.
 use mathlib.Core.Path.{◌≡◌, ◌∙◌, ap}
 use Prim.Native.Nat.{ℕ, ◌+◌, ◌*◌, ◌/◌, ◌%◌, ◌<◌, ◌≤◌}
-use native.Mathlib.Nat.{div-add-mod', mul-le-mul}
+use native.Mathlib.Nat.{mul-le-mul}
 use native.Mathlib.Omega.{arith}
 use lib.Dec.{ltb}
 use lib.Arith.{digits_div, digits_mod}
 use borrow.Author.Tests.{ltb-true, ltb-false}
 use Rattle.combine.proofs.Tests.{cases}
-use Rattle.hall.specs.Cells.{sub_over, first_over, port}
+use Rattle.hall.specs.Cells.{sub_over, port}
 use Rattle.hall.proofs.Place.{cell_of, sub_below, port_lt, port_ge}
 
 pub cell_over : (T u : ℕ) → u / T / (T + 1) ≡ u / ((T + 1) * T)
@@ -17,17 +17,7 @@ cell_over T u = ap (λ (k : ℕ). k / (T + 1)) (cell_of T u) ∙ digits_div (u /
 pub sub_over_lem : (T u : ℕ) → u / T % (T + 1) ≡ sub_over T u
 sub_over_lem T u = ap (λ (k : ℕ). k % (T + 1)) (cell_of T u) ∙ digits_mod (u / ((T + 1) * T)) (sub_below T u)
 
--- a cell begins at or before each of its servers
-pub first_below : (T u : ℕ) → first_over T u ≤ u
-first_below T u = omega (arith, div-add-mod' u ((T + 1) * T))
-
--- products of two numbers of 32 bits
-pub cell_fits : (T : ℕ) → T < 4294967296 → (T + 1) * T < 18446744073709551616
-cell_fits T h =
-    let m : T + 1 ≤ 4294967296 = omega arith in
-    let r : T ≤ 4294967295 = omega arith in
-    omega (arith, mul-le-mul m r)
-
+-- a product of two numbers of 32 bits
 pub times_fits : (p T : ℕ) → T < 4294967296 → p ≤ T → p * T ≤ 18446744065119617025
 times_fits p T h l =
     let m : p ≤ 4294967295 = omega arith in

@@ -3,9 +3,6 @@ use native.Mathlib.Omega.{arith}
 use Rattle.cells.proofs.Wide.{times_fits, port_below}
 use Rattle.cells.proofs.joined.end_at.Goals as goal
 
-pub overflow_mul-result : goal.overflow_mul-result
-overflow_mul-result c = omega (arith, times_fits c.args.p c.args.t (omega arith) (omega arith))
-
 pub overflow_add-result : goal.overflow_add-result
 overflow_add-result c =
     let a = c.args in
@@ -15,6 +12,3 @@ pub overflow_add-result-2 : goal.overflow_add-result-2
 overflow_add-result-2 c =
     let a = c.args in
     omega (arith, times_fits a.p a.t (omega arith) (omega arith), port_below a.p a.q a.t (omega arith), c.port_towards.ensures)
-
-pub returns : goal.returns
-returns c = rw c.port_towards.ensures
