@@ -2,8 +2,7 @@
 use mathlib.Core.Path.{◌≡◌, ◌∙◌, ap}
 use Prim.Native.Nat.{ℕ, ◌-◌, ◌<◌, ◌≤◌}
 use mathlib.Core.Bool.{true}
-use Rattle.std.proofs.Common.{Result, Ok, Err, IsErr, IsOk}
-use Rattle.std.specs.Result.{IsErrAnd}
+use Rattle.std.proofs.Common.{Result, Ok, Err, IsOk}
 use Rattle.hall.specs.declared.Hall.{Hall}
 use Rattle.hall.specs.declared.refusals.Refusal.{Refusal}
 use Rattle.hall.specs.Cells.{neighbour}
@@ -11,11 +10,6 @@ use Rattle.hall.specs.Halls.{valid, servers}
 use Rattle.hall.proofs.Stated.{number_not_zero}
 use Rattle.cells.specs.Answers.{NeighbourAnswer, neighbour_of, neighbour_stated}
 use Rattle.cells.proofs.Asks.{neighbour_sound}
-
--- a call's refusal goes on as it is
-pub handed : {A : Type 0} {e : Refusal} (r : Result A Refusal) → IsErr r × IsErrAnd r (λ x. x ≡ e) → r ≡ Err e
-handed (Ok a) p = absurd p.1
-handed (Err x) p = ap Err p.1
 
 -- the neighbour call where nothing is refused: it answers, and with the neighbour
 module _ (h : Hall) (u i : ℕ) (v : valid h ≡ true) (l : u < servers h) (low : 0 < i) (high : i ≤ h.k) where

@@ -4,7 +4,7 @@ use mathlib.Core.List.{List, [], ◌∷◌}
 use Prim.Native.Nat.{ℕ, ◌-◌, ◌<◌}
 use native.Mathlib.Omega.{arith}
 use lib.ListN.{get_or}
-use Rattle.std.specs.Prelude.{Result, Ok, Err, MatchResult, IsOkAnd, is_err, true, false}
+use Rattle.std.specs.Prelude.{Result, Ok, Err, MatchResult, IsOkAnd, IsErr, IsErrAnd, is_err, true, false}
 use Rattle.combine.proofs.Tests.{never}
 use borrow.Author.Tests.{eq-eqb, ne_eqb}
 use Rattle.hall.specs.declared.refusals.Refusal.{Refusal}
@@ -61,6 +61,11 @@ accepted number (Err r) e f = never refl f
 pub refused : {A : Type 0} (number : ℕ) (x : Result A Refusal) → refusal_in x ≡ number → is_err x ≡ true → number ≡ 0 → ⊥
 refused number (Ok a) e f z = never f refl
 refused number (Err r) e f z = number_not_zero r (e ∙ z)
+
+-- a call's refusal goes on as it is
+pub handed : {A : Type 0} {e : Refusal} (r : Result A Refusal) → IsErr r × IsErrAnd r (λ x. x ≡ e) → r ≡ Err e
+handed (Ok a) p = absurd p.1
+handed (Err x) p = ap Err p.1
 
 -- the reasons in the order of their numbers, from 1 on
 reasons : List Refusal

@@ -2,7 +2,7 @@
 use mathlib.Core.Path.{sym}
 use Rattle.hall.proofs.Stated.{number_not_zero}
 use Rattle.cells.proofs.Asks.{level_later, level_low, level_high, level_sound}
-use Rattle.cells.proofs.Stated.{handed}
+use Rattle.hall.proofs.Stated.{handed}
 use Rattle.cells.proofs.refused_level.Goals as goal
 
 pub returns-in_err-refused_uid : goal.returns-in_err-refused_uid

@@ -14,7 +14,7 @@ use Rattle.hall.proofs.Growth.{g_at, size_of_lem}
 use Rattle.hall.proofs.Stated.{number_not_zero}
 use Rattle.cells.specs.Answers.{subcells_fit, asks_link}
 use Rattle.cells.proofs.Asks.{SoundLevel, level_known, link_later, link_alone}
-use Rattle.cells.proofs.Stated.{handed}
+use Rattle.hall.proofs.Stated.{handed}
 use Rattle.cells.proofs.refused_link.Goals.{After-size_of-size, In_ok-refused_level}
 use Rattle.cells.proofs.refused_link.Goals as goal
 

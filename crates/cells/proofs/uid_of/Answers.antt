@@ -5,7 +5,7 @@ use Rattle.hall.specs.Refusals.{refusal}
 use Rattle.hall.specs.Halls.{valid}
 use Rattle.hall.proofs.Growth.{valid_known, sizes_refused, sizes_given, sizes_listed}
 use Rattle.hall.proofs.Stated.{number_not_zero}
-use Rattle.cells.proofs.Stated.{handed}
+use Rattle.hall.proofs.Stated.{handed}
 use Rattle.cells.proofs.uid_of.Goals.{In_ok-sizes}
 use Rattle.cells.proofs.uid_of.Goals as goal
 
