@@ -107,7 +107,7 @@ pub down : (level : ℕ) → 0 < level → level ≡ suc (level - 1)
 down level h = omega arith
 
 -- the level below, as the code has it: s is the size of the sub-cells
-module _ (S : List ℕ) (level first from to : ℕ) (I : Inside S level first from to) (h : 0 < level) where
+module _ {S : List ℕ} {level first from to : ℕ} (I : Inside S level first from to) (h : 0 < level) where
   pub size_below : get_or S (level - 1) 0 ≡ t (per_switch S) (level - 1)
   size_below = I.hall.sized (level - 1) (omega (arith, I.low))
 

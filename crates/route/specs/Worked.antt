@@ -1,10 +1,9 @@
 -- Worked values of routes, computed.
 -- Section "Route without failures".
-use Rattle.std.specs.Prelude.{◌≡◌, refl, List, [], ◌∷◌, map, ℕ}
+use Rattle.std.specs.Prelude.{◌≡◌, refl, List, [], ◌∷◌, map, ℕ, Some}
 use Rattle.hall.specs.Cells.{t, cell, same, sub, port, end, near, far, lowest}
 use Rattle.hall.specs.Halls.{racks, capacity, full_hall, n_fits, k_fits, b_fits, count_fits, valid, servers}
 use Rattle.hall.specs.Refusals.{refusal}
-use Rattle.route.specs.declared.Crossing.TheVariants.{Link}
 use Rattle.route.specs.Routes.{route, hops}
 use Rattle.route.specs.Answers.{padded, in_hall, route_between, first_among, first_above, first_link}
 
@@ -36,6 +35,7 @@ unfolding padded in_hall route same near far end port sub cell t valid n_fits k_
 route_between_20 = refl
 
 -- the first link above level 0 and above level 1, in the hall of n = 2, k = 2
-pub first_5_11 : (first_link (full_hall 2 2 0) 5 11 ≡ Link 4 1 1) × (first_link (full_hall 2 2 1) 5 11 ≡ Link 0 6 2)
+pub first_5_11 : (first_link (full_hall 2 2 0) 5 11 ≡ Some (record { near = 4; far = 1; level = 1 }))
+    × (first_link (full_hall 2 2 1) 5 11 ≡ Some (record { near = 0; far = 6; level = 2 }))
 unfolding first_link first_above first_among hops lowest route same near far end port sub cell t valid n_fits k_fits b_fits count_fits capacity racks servers
 first_5_11 = (refl, refl)

@@ -2,15 +2,17 @@
 
 #![tactic(auto)]
 
-ghost use Rattle.std.specs.Prelude.{◌≡◌, ◌+◌, length, replicate, eqb};
+ghost use Rattle.std.specs.Prelude.{◌≡◌, ◌+◌, [], ◌∷◌, length, eqb, IfOk};
 ghost use Rattle.std.proofs.lemmas.List.Edits.{sets};
 ghost use Rattle.combine.specs.Tests.{pick};
+ghost use Rattle.hall.specs.Refusals.{refusal, refusal_in};
 ghost use Rattle.hall.specs.Cells.{port};
+ghost use Rattle.hall.specs.Halls.{asks_hall, asks_uid};
 ghost use Rattle.route.specs.Routes.{route};
-ghost use Rattle.route.specs.Answers.{longest, no_route, route_between, first_above, no_link, first_link_of};
+ghost use Rattle.route.specs.Answers.{route_between, route_stated, first_above, first_link_of, first_link_stated};
 ghost use Rattle.route.specs.Filling.{in_switch, per_switch, Inside, Room};
 
-use hall::refusals::BAD_UID;
+use hall::refusals::Refusal;
 use hall::{Hall, PLACES};
 
 // The servers of the longest route.
@@ -19,23 +21,16 @@ pub const LONGEST: usize = 16;
 // A route: its links, and its uids in order, zeros behind them.
 #[derive(Clone, Copy)]
 pub struct Route {
-    pub refusal: u32,
     pub links: u32,
     pub uids: [u32; LONGEST],
 }
 
-// The first link of a route above a level, or nothing.
+// A link of a route between two sub-cells of a level: its near end, its far end and the level.
 #[derive(Clone, Copy)]
-pub enum Crossing {
-    Link { near: u32, far: u32, level: u32 },
-    Nothing,
-}
-
-// The first link of a route above the hall's local level, or nothing; or the refusal.
-#[derive(Clone, Copy)]
-pub struct FirstLink {
-    pub refusal: u32,
-    pub link: Crossing,
+pub struct Crossing {
+    pub near: u32,
+    pub far: u32,
+    pub level: u32,
 }
 
 // Inside sub-cell p, the server that is joined to sub-cell q.
@@ -109,116 +104,67 @@ fn fill(
     fill(sizes, below, there, into, to_inside, uids, middle)
 }
 
-// No place filled in yet.
-fn no_uids() -> [u32; LONGEST]
-    ensures { result ≡ replicate longest 0 }
-{
-    [0u32; LONGEST]
-}
-
-// The first link above level b of the route from x to y.
-fn first_above(sizes: &[u32; PLACES], b: u32, k: u32, x: u32, y: u32) -> Crossing
+// The first link above level b of the route from x to y, or none.
+fn first_above(sizes: &[u32; PLACES], b: u32, k: u32, x: u32, y: u32) -> Option<Crossing>
     requires { Inside sizes.now k 0 x y }
     ensures { result ≡ first_above (per_switch sizes.now) b k x y }
 {
-    let mut near: u32 = 0;
-    let mut far: u32 = 0;
-    let mut level: u32 = 0;
-    let mut first: u32 = 0;
+    let mut found = None;
+    let mut first = 0;
     let mut from = x;
     let mut to = y;
-    let mut j = k;
-    while b < j {
-        j -= 1;
-        let at = j as usize;
-        let size = sizes[at];
+    for j in (b..k).rev() {
+        let size = sizes[j as usize];
         let p = from / size;
         let q = to / size;
         let here = first + p * size;
-        let to_inside = to % size;
-        from = from % size;
-        if p == q {
-            first = here;
-            to = to_inside;
-            continue;
+        from %= size;
+        to %= size;
+        if p != q {
+            let out = port_to(p, q);
+            let far = first + q * size + port_to(q, p);
+            found = Some(Crossing {
+                near: here + out,
+                far,
+                level: j + 1,
+            });
+            to = out;
         }
-        let out = port_to(p, q);
-        near = here + out;
-        far = first + q * size + port_to(q, p);
-        level = j + 1;
         first = here;
-        to = out;
     }
-    if level == 0 {
-        return Crossing::Nothing;
-    }
-    Crossing::Link { near, far, level }
+    found
 }
 
-// A refusal of a route.
-fn refused(number: u32) -> Route
-    ensures { result ≡ no_route number }
+// The sizes of a hall that has the servers x and y, or why they are refused.
+fn sizes_with(h: Hall, x: u32, y: u32) -> Result<[u32; PLACES], Refusal>
+    ensures refused { refusal_in result ≡ refusal (asks_hall h ∷ asks_uid h x ∷ asks_uid h y ∷ []) }
+    ensures given { IfOk result (λ sizes. Inside sizes h.k 0 x y × (per_switch sizes ≡ h.n)) }
 {
-    Route {
-        refusal: number,
-        links: 0,
-        uids: no_uids(),
+    let sizes = hall::sizes_of(h)?;
+    let servers = sizes[h.k as usize];
+    if servers <= x || servers <= y {
+        return Err(Refusal::BadUid);
     }
+    Ok(sizes)
 }
 
 // The route from x to y.
-pub fn route_between(h: Hall, x: u32, y: u32) -> Route
-    ensures { result ≡ route_between h x y }
+pub fn route_between(h: Hall, x: u32, y: u32) -> Result<Route, Refusal>
+    ensures { route_stated result ≡ route_between h x y }
 {
-    let s = hall::sizes_of(h);
-    if s.refusal != 0 {
-        return refused(s.refusal);
-    }
-    let sizes = s.t;
-    let k = h.k as usize;
-    let servers = sizes[k];
-    if servers <= x {
-        return refused(BAD_UID);
-    }
-    if servers <= y {
-        return refused(BAD_UID);
-    }
-    let mut uids = no_uids();
-    let next = fill(&sizes, k, 0, x, y, &mut uids, 0);
-    Route {
-        refusal: 0,
+    let sizes = sizes_with(h, x, y)?;
+    let mut uids = [0u32; LONGEST];
+    let next = fill(&sizes, h.k as usize, 0, x, y, &mut uids, 0);
+    Ok(Route {
         links: (next - 1) as u32,
         uids,
-    }
+    })
 }
 
-// A refusal of a first link.
-fn no_link(number: u32) -> FirstLink
-    ensures { result ≡ no_link number }
+// The first link above the hall's local level of the route from x to y, or none.
+pub fn first_link(h: Hall, x: u32, y: u32) -> Result<Option<Crossing>, Refusal>
+    ensures { first_link_stated result ≡ first_link_of h x y }
 {
-    FirstLink {
-        refusal: number,
-        link: Crossing::Nothing,
-    }
-}
-
-// The first link above the hall's local level of the route from x to y.
-pub fn first_link(h: Hall, x: u32, y: u32) -> FirstLink
-    ensures { result ≡ first_link_of h x y }
-{
-    let s = hall::sizes_of(h);
-    if s.refusal != 0 {
-        return no_link(s.refusal);
-    }
-    let sizes = s.t;
-    let k = h.k as usize;
-    let servers = sizes[k];
-    if servers <= x {
-        return no_link(BAD_UID);
-    }
-    if servers <= y {
-        return no_link(BAD_UID);
-    }
-    let link = first_above(&sizes, h.b, h.k, x, y);
-    FirstLink { refusal: 0, link }
+    let sizes = sizes_with(h, x, y)?;
+    Ok(first_above(&sizes, h.b, h.k, x, y))
 }
