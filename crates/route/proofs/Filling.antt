@@ -1,15 +1,15 @@
 -- A route is filled in as it recurses: its second part is stored behind its first, and stores in a row join as the lists do.
 use mathlib.Core.Path.{◌≡◌, refl, sym, ◌∙◌, ap, ap₂}
-use mathlib.Core.Bool.{Bool, true, false}
+use mathlib.Core.Bool.{true, not}
 use mathlib.Core.List.{List, [], ◌∷◌, ◌++◌}
 use Prim.Native.Nat.{ℕ, suc, ◌+◌, ◌-◌, ◌*◌, ◌/◌, ◌%◌, ◌^◌, ◌<◌, ◌≤◌}
 use native.Mathlib.Nat.{add-zero, add-suc, suc-add, mul-zero, mul-one}
 use native.Mathlib.Numerals.{add-one}
 use native.Mathlib.Omega.{arith}
 use lib.Dec.{eqb}
+use mir.Val.{bool_byte}
 use lib.ListN.{length, get_or, set, length-append}
 use lib.Seq.{sets, set-get_or, get_or-set_other}
-use Rattle.combine.specs.Tests.{pick}
 use Rattle.combine.proofs.Tests.{cases}
 use Rattle.hall.specs.Cells.{same, port}
 use Rattle.route.specs.Routes.{route}
@@ -34,12 +34,8 @@ stored_join u r s at eq em ev en ew = (
   rw (eq, ew, ev, em) (sets_append u at r s),
 )
 
-pub times_links : (b : Bool) (y links : ℕ) → links ≡ pick b 0 1 → y * links ≤ y
-times_links true y links e = rw (e, mul-zero y) (omega arith)
-times_links false y links e = rw (e, mul-one y) (omega arith)
-
 -- the two ways in one DCell0: where x and y are one server the place behind it holds 0 as it did
-pub put_links : (u : List ℕ) (x y at links : ℕ) → links ≡ pick (eqb x y) 0 1 → get_or u (at + 1) 0 ≡ 0
+pub put_links : (u : List ℕ) (x y at links : ℕ) → links ≡ bool_byte (not (eqb x y)) → get_or u (at + 1) 0 ≡ 0
     → (at + 1 + links ≡ at + length (in_switch x y)) × (set (set u at x) (at + 1) (y * links) ≡ sets u at (in_switch x y))
 unfolding in_switch
 put_links u x y at links e z = cases (eqb x y)

@@ -2,9 +2,8 @@
 
 #![tactic(auto)]
 
-ghost use Rattle.std.specs.Prelude.{◌≡◌, ◌+◌, [], ◌∷◌, length, eqb, IfOk};
+ghost use Rattle.std.specs.Prelude.{◌≡◌, ◌+◌, [], ◌∷◌, length, IfOk};
 ghost use Rattle.std.proofs.lemmas.List.Edits.{sets};
-ghost use Rattle.combine.specs.Tests.{pick};
 ghost use Rattle.hall.specs.Refusals.{refusal, refusal_in};
 ghost use Rattle.hall.specs.Cells.{port};
 ghost use Rattle.hall.specs.Halls.{asks_hall, asks_uid};
@@ -43,23 +42,13 @@ fn port_to(p: u32, q: u32) -> u32
     q
 }
 
-// The links between two servers of one DCell0: 0 where they are one, else 1.
-fn links_in_switch(x: u32, y: u32) -> u32
-    ensures { result ≡ pick (eqb x y) 0 1 }
-{
-    if x == y {
-        return 0;
-    }
-    1
-}
-
 // Writes the route between two servers of one DCell0 from place `at` on, and answers the place behind it.
 fn put(x: u32, y: u32, uids: &mut [u32; LONGEST], at: usize) -> usize
     requires { Room uids.old 0 at }
     ensures next { result ≡ at + length (in_switch x y) }
     ensures filled { uids.new ≡ sets uids.old at (in_switch x y) }
 {
-    let links = links_in_switch(x, y);
+    let links = u32::from(x != y);
     let next = at + 1;
     uids[at] = x;
     uids[next] = y * links;
