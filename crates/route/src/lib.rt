@@ -33,6 +33,7 @@ pub struct Crossing {
 }
 
 // Inside sub-cell p, the server that is joined to sub-cell q.
+#[tactic(auto, unfolding(hall::specs::Cells::port))]
 fn port_to(p: u32, q: u32) -> u32
     ensures { result ≡ port p q }
 {
