@@ -7,7 +7,7 @@ use Rattle.hall.specs.Halls.{valid}
 use Rattle.local.specs.Local.{cell_size}
 use Rattle.local.proofs.Sizes.{cell_size_lem, size_pos, place_under}
 use Rattle.local.proofs.Asks.{sound_hall, sound_one}
-use Rattle.local.proofs.Answers.{distances_refused, distances_told}
+use Rattle.local.proofs.Answers.{distances_told}
 use Rattle.local.proofs.distances_of.Goals.{After-size_of-count, Else-number-ne0}
 use Rattle.local.proofs.distances_of.Goals as goal
 
@@ -18,12 +18,6 @@ sized : (c : After-size_of-count) → c.size_of-count.result ≡ cell_size c.arg
 sized c =
     let a = c.args in
     cell_size_lem _ _ (sound_hall a.h a.table.now a.uid (sym c.refused-number.ensures ∙ c.if-number-ne0.false)) c.size_of-count.ensures
-
-pub returns-then-number-ne0 : goal.returns-then-number-ne0
-returns-then-number-ne0 c =
-    let a = c.args in
-    let f = c.refused-number in
-    distances_refused a.h a.uid a.table.now f.result f.ensures c.untold.result c.if-number-ne0.true c.untold.ensures
 
 pub own_codes-requires : goal.own_codes-requires
 own_codes-requires c =

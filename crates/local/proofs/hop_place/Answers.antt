@@ -8,9 +8,6 @@ use Rattle.local.proofs.Hops.{hop_none}
 use Rattle.local.proofs.Direct.{hop_direct, hop_lone}
 use Rattle.local.proofs.hop_place.Goals as goal
 
-pub is_linked-requires : goal.is_linked-requires
-is_linked-requires c = (c.requires.0, c.requires.1)
-
 pub returns-then-is_linked : goal.returns-then-is_linked
 returns-then-is_linked c =
     sym (hop_direct c.args.h c.args.table.now (valid_known c.args.h c.requires.0) c.args.x c.args.y c.requires.1 c.requires.2
@@ -25,7 +22,3 @@ pub returns-then-x-y : goal.returns-then-x-y
 returns-then-x-y c =
     cell_size_lem _ _ c.requires.0 c.size_of.ensures
     ∙ sym (hop_none c.args.h c.args.table.now (valid_known c.args.h c.requires.0) c.args.x c.args.y c.requires.1 c.requires.2 (inl c.if-x-y.true))
-
-pub searched_hop-requires : goal.searched_hop-requires
-searched_hop-requires c =
-    (c.requires.0, c.requires.1, c.requires.2, c.if-x-y.false, sym c.is_linked.ensures ∙ c.if-is_linked.false, c.if-h-eq0.false)

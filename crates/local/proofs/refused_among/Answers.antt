@@ -1,10 +1,9 @@
 -- `local::refused_among` meets its contract: a hall without servers is none, and each return has the tests that decide its number.
 use mathlib.Core.Path.{◌≡◌, sym, ◌∙◌}
-use native.Mathlib.Omega.{arith}
 use Rattle.hall.proofs.Growth.{no_servers, some_servers, valid_servers}
 use Rattle.local.specs.Local.{cell_size}
 use Rattle.local.proofs.Sizes.{cell_size_lem}
-use Rattle.local.proofs.Asks.{bytes_are, bytes_fit, refuses_hall, refuses_length, refuses_uid, refuses_nothing}
+use Rattle.local.proofs.Asks.{bytes_are, refuses_hall, refuses_length, refuses_uid, refuses_nothing}
 use Rattle.local.proofs.refused_among.Goals.{After-size_of}
 use Rattle.local.proofs.refused_among.Goals as goal
 
@@ -15,11 +14,6 @@ pub returns-then-size-eq0 : goal.returns-then-size-eq0
 returns-then-size-eq0 c =
     let a = c.args in
     refuses_hall a.h a.table.now a.uid (no_servers _ _ c.requires c.if-size-eq0.true)
-
-pub overflow_mul-bytes : goal.overflow_mul-bytes
-overflow_mul-bytes c =
-    let v = some_servers _ _ c.requires c.if-size-eq0.false in
-    omega (arith, bytes_fit _ _ v (sized (goal.at.overflow_mul-bytes c).After-size_of))
 
 pub returns-then-table-bytes : goal.returns-then-table-bytes
 returns-then-table-bytes c =
