@@ -112,12 +112,10 @@ fn is_live(h: Hall, table: &[u8], d: &[u8; 72], r: u8, s: u32) -> bool
     ensures { result ≡ switch_has h table.now (reached_by d.now r) s }
 {
     let first = s * h.n;
-    let mut i: u32 = 0;
-    while i < h.n {
+    for i in 0..h.n {
         if gives(h, table, d, r, first + i) {
             return true;
         }
-        i += 1;
     }
     false
 }
@@ -155,6 +153,7 @@ fn by_switch(h: Hall, table: &[u8], x: u32, live: bool) -> bool
 }
 
 // Whether round r reaches server i of switch s; `live` says whether one on that switch is reached before it, with its port 0 up.
+#[tactic(auto, using(crate::proofs::Sizes::size_within))]
 fn is_new(h: Hall, table: &[u8], d: &[u8; 72], r: u8, s: u32, i: u32, live: bool) -> bool
     requires { (valid h ≡ true) × (r < 255) × (i < h.n) × (s * h.n + i < cell_size h) × (live ≡ switch_has h table.now (reached_by d.now r) s) }
     ensures { result ≡ new (linked h table.now) (cell_size h) none r d.now (s * h.n + i) }
@@ -174,6 +173,7 @@ fn is_new(h: Hall, table: &[u8], d: &[u8; 72], r: u8, s: u32, i: u32, live: bool
 }
 
 // Round r where the distances stand: who is new gets r + 1. Answers whether anybody is.
+#[tactic(auto, using(crate::proofs::Sizes::switch_within))]
 fn one_round(h: Hall, table: &[u8], d: &mut [u8; 72], r: u8) -> bool
     requires { (valid h ≡ true) × (r < 72) × (length d.old ≡ 72) }
     ensures reaches { result ≡ any_below (new (linked h table.now) (cell_size h) none r d.old) (cell_size h) }
@@ -181,19 +181,15 @@ fn one_round(h: Hall, table: &[u8], d: &mut [u8; 72], r: u8) -> bool
 {
     let count = switches(h);
     let mut any = false;
-    let mut s: u32 = 0;
-    while s < count {
+    for s in 0..count {
         let live = is_live(h, table, d, r, s);
-        let mut i: u32 = 0;
-        while i < h.n {
+        for i in 0..h.n {
             if is_new(h, table, d, r, s, i, live) {
                 let at = (s * h.n + i) as usize;
                 d[at] = r + 1;
                 any = true;
             }
-            i += 1;
         }
-        s += 1;
     }
     any
 }
@@ -213,6 +209,7 @@ fn untold() -> [u8; 72]
 }
 
 // The distance of each place from the place o.
+#[tactic(auto, using(crate::proofs::Sizes::size_within, crate::proofs::Sizes::count_within))]
 fn distances_from(h: Hall, table: &[u8], o: u32) -> [u8; 72]
     requires { (valid h ≡ true) × (o < cell_size h) }
     ensures { result ≡ record_from h table.now o }
@@ -221,12 +218,10 @@ fn distances_from(h: Hall, table: &[u8], o: u32) -> [u8; 72]
     let mut d = unreached();
     let at = o as usize;
     d[at] = 0;
-    let mut r: u8 = 0;
-    while (r as u32) < count {
+    for r in 0..count as u8 {
         if !one_round(h, table, &mut d, r) {
             return d;
         }
-        r += 1;
     }
     d
 }
@@ -279,6 +274,7 @@ fn on_switch(n: u32, x: u32, y: u32) -> bool
 }
 
 // Whether a usable link joins the servers at two places.
+#[tactic(auto, using(crate::proofs::Sizes::switch_pos))]
 fn is_linked(h: Hall, table: &[u8], x: u32, y: u32) -> bool
     requires { (valid h ≡ true) × (x < cell_size h) }
     ensures { result ≡ linked h table.now x y }
@@ -301,17 +297,16 @@ fn lowest_giving(h: Hall, table: &[u8], d: &[u8; 72], r: u8, s: u32) -> u32
     ensures { result ≡ lowest_from (gives_by h table.now d.now r s) h.n 0 }
 {
     let first = s * h.n;
-    let mut z: u32 = 0;
-    while z < h.n {
+    for z in 0..h.n {
         if gives(h, table, d, r, first + z) {
             return z;
         }
-        z += 1;
     }
-    z
+    h.n
 }
 
 // The lowest place on the switch of x that meets it, `count` where there is none.
+#[tactic(auto, using(crate::proofs::Sizes::switch_pos))]
 fn met_beside(h: Hall, table: &[u8], d: &[u8; 72], r: u8, x: u32, count: u32) -> u32
     requires { (valid h ≡ true) × (h.b ≡ 0 → ⊥) × (x < cell_size h) × (count ≡ cell_size h) × (reached_by d.now r x ≡ false) }
     ensures { result ≡ lowest_from (beside_by h table.now d.now r x) (cell_size h) 0 }
@@ -328,6 +323,7 @@ fn met_beside(h: Hall, table: &[u8], d: &[u8; 72], r: u8, x: u32, count: u32) ->
 }
 
 // The place across the level-1 link of x where it meets x, else `count`.
+#[tactic(auto, using(crate::proofs::Sizes::switch_pos))]
 fn met_across(h: Hall, table: &[u8], d: &[u8; 72], r: u8, x: u32, count: u32) -> u32
     requires { (valid h ≡ true) × (h.b ≡ 0 → ⊥) × (x < cell_size h) × (count ≡ cell_size h) }
     ensures { result ≡ lowest_from (across_by h table.now d.now r x) (cell_size h) 0 }
@@ -346,13 +342,11 @@ fn lowest_met(h: Hall, table: &[u8], d: &[u8; 72], r: u8, x: u32, count: u32) ->
 {
     let beside = met_beside(h, table, d, r, x, count);
     let across = met_across(h, table, d, r, x, count);
-    if beside < across {
-        return beside;
-    }
-    across
+    beside.min(across)
 }
 
 // The place of the next hop from x towards y, which no usable link joins, by a search from y until it meets x; the cell's size where there is none.
+#[tactic(auto, using(crate::proofs::Sizes::size_within, crate::proofs::Sizes::count_within))]
 fn searched_hop(h: Hall, table: &[u8], x: u32, y: u32) -> u32
     requires { (valid h ≡ true) × (x < cell_size h) × (y < cell_size h) × (x ≡ y → ⊥) × (linked h table.now x y ≡ false) × (h.b ≡ 0 → ⊥) }
     ensures { result ≡ hop h table.now x y }
@@ -361,13 +355,11 @@ fn searched_hop(h: Hall, table: &[u8], x: u32, y: u32) -> u32
     let mut d = unreached();
     let at = y as usize;
     d[at] = 0;
-    let mut rounds: u8 = 0;
-    while (rounds as u32) < count {
-        if !one_round(h, table, &mut d, rounds) {
+    for round in 0..count as u8 {
+        if !one_round(h, table, &mut d, round) {
             return count;
         }
-        rounds += 1;
-        let z = lowest_met(h, table, &d, rounds, x, count);
+        let z = lowest_met(h, table, &d, round + 1, x, count);
         if z < count {
             return z;
         }

@@ -1,13 +1,9 @@
 -- `local::is_linked` meets its contract: on one switch its ports decide, else the link of level 1 where there is one.
 use mathlib.Core.Path.{sym, ◌∙◌}
-use native.Mathlib.Omega.{arith}
 use Rattle.hall.proofs.Growth.{valid_known}
 use Rattle.local.proofs.Linked.{linked_switch, linked_none, linked_other, linked_over}
 use Rattle.local.proofs.Beside.{switch_low, place_in, across_is}
 use Rattle.local.proofs.is_linked.Goals as goal
-
-pub on_switch-requires : goal.on_switch-requires
-on_switch-requires c = let v = valid_known _ c.requires.0 in omega arith
 
 pub returns-then-on_switch : goal.returns-then-on_switch
 returns-then-on_switch c =
@@ -18,12 +14,6 @@ pub returns-then-h-eq0 : goal.returns-then-h-eq0
 returns-then-h-eq0 c =
     linked_none c.args.h c.args.table.now (valid_known c.args.h c.requires.0) c.args.x c.args.y
     (sym c.on_switch.ensures ∙ c.if-on_switch.false) c.if-h-eq0.true
-
-pub nonzero_div-x : goal.nonzero_div-x
-nonzero_div-x c = let v = valid_known _ c.requires.0 in omega arith
-
-pub nonzero_rem-x : goal.nonzero_rem-x
-nonzero_rem-x c = let v = valid_known _ c.requires.0 in omega arith
 
 pub neighbour_place-requires : goal.neighbour_place-requires
 neighbour_place-requires c =

@@ -1,21 +1,8 @@
 -- `local::is_new` meets its contract: a place that has its distance is not new, else its live switch and its neighbour of level 1 decide.
-use native.Mathlib.Omega.{arith}
 use Rattle.hall.proofs.Growth.{valid_known}
-use Rattle.local.proofs.Sizes.{size_fits, switch_fits, neighbour_fits}
+use Rattle.local.proofs.Sizes.{switch_fits, neighbour_fits}
 use Rattle.local.proofs.Rounds.{new_marked, new_live, new_apart, new_linked}
 use Rattle.local.proofs.is_new.Goals as goal
-
-pub overflow_mul-x : goal.overflow_mul-x
-overflow_mul-x c = omega (arith, size_fits c.args.h (valid_known c.args.h c.requires.0))
-
-pub overflow_add-x : goal.overflow_add-x
-overflow_add-x c = omega (arith, size_fits c.args.h (valid_known c.args.h c.requires.0))
-
-pub overflow_cast-at : goal.overflow_cast-at
-overflow_cast-at c = omega (arith, size_fits c.args.h (valid_known c.args.h c.requires.0))
-
-pub bounds-d-at : goal.bounds-d-at
-bounds-d-at c = omega (arith, size_fits c.args.h (valid_known c.args.h c.requires.0))
 
 pub returns-then-d-at : goal.returns-then-d-at
 returns-then-d-at c =

@@ -1,12 +1,9 @@
 -- `local::lowest_giving` meets its contract. The loop's invariant: what is left of the look for the lowest is the whole look.
 use mathlib.Core.Path.{◌≡◌}
-use Prim.Native.Nat.{◌≤◌, ◌-◌}
+use Prim.Native.Nat.{◌-◌}
 use Rattle.local.specs.Lowest.{lowest_from}
 use Rattle.local.specs.Looks.{gives_by}
 use Rattle.local.proofs.lowest_giving.Given as goal
 
 abbrev pub invariant-loop-z : goal.invariant-loop-z
-invariant-loop-z l = (l.z ≤ l.h.n) × (lowest_from (gives_by l.h l.table l.d l.r l.s) (l.h.n - l.z) l.z ≡ lowest_from (gives_by l.h l.table l.d l.r l.s) l.h.n 0)
-
-abbrev pub decreases-loop-z : goal.decreases-loop-z
-decreases-loop-z l = l.h.n - l.z
+invariant-loop-z l = (lowest_from (gives_by l.h l.table l.d l.r l.s) (l.h.n - l.z) l.z ≡ lowest_from (gives_by l.h l.table l.d l.r l.s) l.h.n 0)

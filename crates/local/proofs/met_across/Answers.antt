@@ -5,12 +5,6 @@ use Rattle.local.proofs.Sizes.{size_fits}
 use Rattle.local.proofs.Beside.{switch_low, place_in, across_is, across_in, across_found, across_missing}
 use Rattle.local.proofs.met_across.Goals as goal
 
-pub nonzero_div-x : goal.nonzero_div-x
-nonzero_div-x c = let v = valid_known _ c.requires.0 in omega arith
-
-pub nonzero_rem-x : goal.nonzero_rem-x
-nonzero_rem-x c = let v = valid_known _ c.requires.0 in omega arith
-
 pub neighbour_place-y-requires : goal.neighbour_place-y-requires
 neighbour_place-y-requires c =
     let v = valid_known c.args.h c.requires.0 in

@@ -13,21 +13,8 @@ returns-then-not-is_up c =
     beside_down c.args.h c.args.table.now v c.requires.1 c.args.x c.requires.2 c.args.d.now c.args.r c.args.count c.requires.3
     (sym f.ensures ∙ c.if-not-is_up.true)
 
-pub nonzero_div-s : goal.nonzero_div-s
-nonzero_div-s c = let v = valid_known _ c.requires.0 in omega arith
-
 pub lowest_giving-i-requires : goal.lowest_giving-i-requires
 lowest_giving-i-requires c =
-    let v = valid_known c.args.h c.requires.0 in
-    omega (arith, size_fits c.args.h v, switch_whole c.args.h c.args.table.now v c.requires.1 c.args.x c.requires.2)
-
-pub overflow_mul-result : goal.overflow_mul-result
-overflow_mul-result c =
-    let v = valid_known c.args.h c.requires.0 in
-    omega (arith, size_fits c.args.h v, switch_whole c.args.h c.args.table.now v c.requires.1 c.args.x c.requires.2)
-
-pub overflow_add-result : goal.overflow_add-result
-overflow_add-result c =
     let v = valid_known c.args.h c.requires.0 in
     omega (arith, size_fits c.args.h v, switch_whole c.args.h c.args.table.now v c.requires.1 c.args.x c.requires.2)
 

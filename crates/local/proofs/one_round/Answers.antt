@@ -1,47 +1,34 @@
 -- `local::one_round` meets its contract. The outer loop's invariant: the distances are filled up to the switch s; the inner loop's: those that
 -- it found are filled up to server i of that switch, whose flag stays right as what is written reads as not reached.
-use mathlib.Core.Path.{◌≡◌, ◌∙◌, sym, ap}
-use Prim.Native.Nat.{ℕ, ◌+◌, ◌*◌, ◌≤◌, ◌<◌, ◌-◌}
+use mathlib.Core.Path.{◌≡◌, ◌∙◌, sym}
+use Prim.Native.Nat.{ℕ, ◌+◌, ◌*◌, ◌≤◌, ◌<◌}
 use native.Mathlib.Omega.{arith}
 use lib.ListN.{length}
-use Rattle.combine.specs.Tests.{any_below}
 use Rattle.hall.proofs.Growth.{valid_known}
-use Rattle.search.specs.Rounds.{new}
-use Rattle.search.proofs.InPlace.{filled, fill_new, fill_old, any_new, any_old}
+use Rattle.search.proofs.InPlace.{fill_new, fill_old, any_new, any_old}
 use Rattle.local.specs.Local.{none, cell_size, linked}
-use Rattle.local.proofs.Sizes.{size_fits, switch_below, place_below}
+use Rattle.local.proofs.Sizes.{place_below, switch_within}
 use Rattle.local.proofs.Rounds.{round_starts, round_starts_any, filled_length, live_on, switch_starts, switch_starts_any, switch_ends, switch_ends_any}
 use Rattle.local.proofs.one_round.Goals.{then-is_new, else-is_new}
 use Rattle.local.proofs.one_round.Goals as goal
 
-pub switches-count-requires : goal.switches-count-requires
-switches-count-requires c = c.requires.0
-
 pub loop-s-init : goal.loop-s-init
 loop-s-init c =
     let a = c.args in (
-      omega arith,
       c.requires.2,
       round_starts a.h a.table.now a.r a.d.now (0 * a.h.n) (omega arith),
       round_starts_any a.h a.table.now a.r a.d.now (0 * a.h.n) (omega arith),
     )
 
-pub is_live-live-requires : goal.is_live-live-requires
-is_live-live-requires c =
-    let v = valid_known c.args.h c.requires.0 in
-    omega (arith, size_fits c.args.h v, switch_below c.args.h v _ _ c.switches-count.ensures c.loop-s-test.true)
-
 pub loop-i-init : goal.loop-i-init
 loop-i-init c =
     let w = c.loop-s in
-    let v = valid_known c.args.h c.requires.0 in
     let x : ℕ = w.s * c.args.h.n in
-    let k : x ≤ 72 = omega (arith, size_fits c.args.h v, switch_below c.args.h v _ _ c.switches-count.ensures c.loop-s-test.true) in (
-      omega arith,
-      filled_length c.args.h c.args.table.now c.args.r c.args.d.now x w.d w.invariant.2 w.invariant.1 k,
+    let k : x ≤ 72 = omega (arith, switch_within c.args.h _ _ c.requires.0 c.switches-count.ensures c.loop-s-test.true) in (
+      filled_length c.args.h c.args.table.now c.args.r c.args.d.now x w.d w.invariant.1 w.invariant.0 k,
       c.is_live-live.ensures,
-      switch_starts c.args.h c.args.table.now c.args.r c.args.d.now (omega arith) x w.d w.invariant.2 (x + 0) (omega arith),
-      switch_starts_any c.args.h c.args.table.now c.args.r c.args.d.now (omega arith) x w.d w.invariant.2 (x + 0) w.any (omega arith),
+      switch_starts c.args.h c.args.table.now c.args.r c.args.d.now (omega arith) x w.d w.invariant.1 (x + 0) (omega arith),
+      switch_starts_any c.args.h c.args.table.now c.args.r c.args.d.now (omega arith) x w.d w.invariant.1 (x + 0) w.any (omega arith),
     )
 
 pub is_new-requires : goal.is_new-requires
@@ -52,52 +39,26 @@ is_new-requires c =
       omega arith,
       c.loop-i-test.true,
       place_below c.args.h v _ _ _ c.switches-count.ensures c.loop-s-test.true c.loop-i-test.true,
-      live_on c.args.h c.args.table.now c.args.r _ (omega arith) _ _ w.d _ w.invariant.3 w.invariant.2,
+      live_on c.args.h c.args.table.now c.args.r _ (omega arith) _ _ w.d _ w.invariant.2 w.invariant.1,
     )
-
-pub overflow_mul-at : goal.overflow_mul-at
-overflow_mul-at c =
-    let v = valid_known c.args.h c.requires.0 in
-    omega (arith, size_fits c.args.h v, place_below c.args.h v c.switches-count.result c.loop-s.s c.loop-i.i c.switches-count.ensures c.loop-s-test.true c.loop-i-test.true)
-
-pub overflow_add-at : goal.overflow_add-at
-overflow_add-at c =
-    let v = valid_known c.args.h c.requires.0 in
-    omega (arith, size_fits c.args.h v, place_below c.args.h v c.switches-count.result c.loop-s.s c.loop-i.i c.switches-count.ensures c.loop-s-test.true c.loop-i-test.true)
-
-pub overflow_cast-at : goal.overflow_cast-at
-overflow_cast-at c =
-    let v = valid_known c.args.h c.requires.0 in
-    omega (arith, size_fits c.args.h v, place_below c.args.h v c.switches-count.result c.loop-s.s c.loop-i.i c.switches-count.ensures c.loop-s-test.true c.loop-i-test.true)
-
-pub bounds-d-at : goal.bounds-d-at
-bounds-d-at c =
-    let v = valid_known c.args.h c.requires.0 in
-    omega (arith, size_fits c.args.h v, place_below c.args.h v c.switches-count.result c.loop-s.s c.loop-i.i c.switches-count.ensures c.loop-s-test.true c.loop-i-test.true)
 
 pub loop-i-preserved : goal.loop-i-preserved
 loop-i-preserved c =
     let w = c.loop-i in
     let x : ℕ = c.loop-s.s * c.args.h.n + w.i in
     let e : x + 1 ≡ c.loop-s.s * c.args.h.n + (w.i + 1) = omega arith in
-    let k : x < length c.loop-s.d = omega (
-      arith,
+    let k : x < length c.loop-s.d = omega (arith, w.invariant.0, switch_within c.args.h _ _ c.requires.0 c.switches-count.ensures c.loop-s-test.true) in (
+      w.invariant.0,
       w.invariant.1,
-      size_fits c.args.h (valid_known c.args.h c.requires.0),
-      place_below c.args.h (valid_known c.args.h c.requires.0) _ _ _ c.switches-count.ensures c.loop-s-test.true c.loop-i-test.true,
-    ) in (
-      omega arith,
-      w.invariant.1,
-      w.invariant.2,
       rw (sym e)
           (elim c.if-is_new.branch [
-            | then-is_new b ↦ b.d-is ∙ fill_new (linked c.args.h c.args.table.now) (cell_size c.args.h) none c.args.r _ (omega arith) x w.d _ w.invariant.3 c.is_new.ensures k b.if-is_new.true
-            | else-is_new b ↦ b.d-is ∙ fill_old (linked c.args.h c.args.table.now) (cell_size c.args.h) none c.args.r _ (omega arith) x w.d _ w.invariant.3 c.is_new.ensures k b.if-is_new.false
+            | then-is_new b ↦ b.d-is ∙ fill_new (linked c.args.h c.args.table.now) (cell_size c.args.h) none c.args.r _ (omega arith) x w.d _ w.invariant.2 c.is_new.ensures k b.if-is_new.true
+            | else-is_new b ↦ b.d-is ∙ fill_old (linked c.args.h c.args.table.now) (cell_size c.args.h) none c.args.r _ (omega arith) x w.d _ w.invariant.2 c.is_new.ensures k b.if-is_new.false
           ]),
       rw (sym e)
           (elim c.if-is_new.branch [
-            | then-is_new b ↦ b.any-is ∙ any_new (linked c.args.h c.args.table.now) (cell_size c.args.h) none c.args.r _ (omega arith) x w.d _ w.invariant.3 c.is_new.ensures k c.loop-s.any b.if-is_new.true
-            | else-is_new b ↦ b.any-is ∙ any_old (linked c.args.h c.args.table.now) (cell_size c.args.h) none c.args.r _ (omega arith) x w.d _ w.invariant.3 c.is_new.ensures k c.loop-s.any w.any w.invariant.4 b.if-is_new.false
+            | then-is_new b ↦ b.any-is ∙ any_new (linked c.args.h c.args.table.now) (cell_size c.args.h) none c.args.r _ (omega arith) x w.d _ w.invariant.2 c.is_new.ensures k c.loop-s.any b.if-is_new.true
+            | else-is_new b ↦ b.any-is ∙ any_old (linked c.args.h c.args.table.now) (cell_size c.args.h) none c.args.r _ (omega arith) x w.d _ w.invariant.2 c.is_new.ensures k c.loop-s.any w.any w.invariant.3 b.if-is_new.false
           ]),
     )
 
@@ -106,15 +67,7 @@ loop-s-preserved c =
     let o = c.loop-s in
     let w = c.loop-i in
     let e : (o.s + 1) * c.args.h.n ≡ o.s * c.args.h.n + w.i = omega arith in (
-      omega arith,
-      o.invariant.1,
-      rw e (switch_ends c.args.h c.args.table.now c.args.r c.args.d.now (omega arith) (o.s * c.args.h.n) o.d o.invariant.2 (o.s * c.args.h.n + w.i) w.d (omega arith) w.invariant.3),
-      rw e (switch_ends_any c.args.h c.args.table.now c.args.r c.args.d.now (omega arith) (o.s * c.args.h.n) o.d o.invariant.2 (o.s * c.args.h.n + w.i) o.any w.any (omega arith) o.invariant.3 w.invariant.4),
+      o.invariant.0,
+      rw e (switch_ends c.args.h c.args.table.now c.args.r c.args.d.now (omega arith) (o.s * c.args.h.n) o.d o.invariant.1 (o.s * c.args.h.n + w.i) w.d (omega arith) w.invariant.2),
+      rw e (switch_ends_any c.args.h c.args.table.now c.args.r c.args.d.now (omega arith) (o.s * c.args.h.n) o.d o.invariant.1 (o.s * c.args.h.n + w.i) o.any w.any (omega arith) o.invariant.2 w.invariant.3),
     )
-
-pub returns : goal.returns
-returns c =
-    let a = c.args in
-    let o = c.loop-s in
-    let q : o.s ≡ c.switches-count.result = omega arith in
-    let e : o.s * a.h.n ≡ cell_size a.h = rw q c.switches-count.ensures in record { reaches = o.invariant.3 ∙ ap (λ (k : ℕ). any_below (new (linked a.h a.table.now) (cell_size a.h) none a.r a.d.now) k) e; writes = o.invariant.2 ∙ ap (λ (k : ℕ). filled (linked a.h a.table.now) (cell_size a.h) none a.r a.d.now k) e }

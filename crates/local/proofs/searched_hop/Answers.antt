@@ -17,84 +17,70 @@ use Rattle.local.proofs.searched_hop.Goals as goal
 sized : (c : After-size_of-count) → c.size_of-count.result ≡ cell_size c.args.h
 sized c = cell_size_lem _ _ c.requires.0 c.size_of-count.ensures
 
-pub bounds-d-at : goal.bounds-d-at
-bounds-d-at c =
-    omega (arith, size_fits c.args.h (valid_known c.args.h c.requires.0))
-
-pub loop-rounds-init : goal.loop-rounds-init
-loop-rounds-init c =
+pub loop-round-init : goal.loop-round-init
+loop-round-init c =
     let v = valid_known c.args.h c.requires.0 in (
-      omega arith,
       ap (λ (l : List ℕ). set l c.args.y 0) c.unreached-d.ensures ∙ record_start c.args.h c.args.table.now c.args.y v c.requires.2,
       starts_unmet c.args.h c.args.table.now v c.args.x c.args.y c.requires.1 c.requires.2 c.requires.3 c.requires.4,
     )
 
-pub overflow_cast-rounds : goal.overflow_cast-rounds
-overflow_cast-rounds c =
-    omega (arith, sized (goal.at.overflow_cast-rounds c).After-size_of-count, size_fits c.args.h (valid_known c.args.h c.requires.0))
-
 pub one_round-requires : goal.one_round-requires
 one_round-requires c =
     let v = valid_known c.args.h c.requires.0 in
-    let w = c.loop-rounds in
-    (c.requires.0, omega (arith, sized (goal.at.one_round-requires c).After-size_of-count, size_fits c.args.h v), record_length c.args.h c.args.table.now c.args.y w.rounds w.d v w.invariant.1)
+    let w = c.loop-round in
+    (c.requires.0, omega (arith, sized (goal.at.one_round-requires c).After-size_of-count, size_fits c.args.h v), record_length c.args.h c.args.table.now c.args.y w.round w.d v w.invariant.0)
 
 pub returns-then-not-one_round : goal.returns-then-not-one_round
 returns-then-not-one_round c =
     let v = valid_known c.args.h c.requires.0 in
-    let w = c.loop-rounds in
+    let w = c.loop-round in
     let f = c.one_round in
     let e = sized (goal.at.returns-then-not-one_round c).After-size_of-count in
-    e ∙ hop_idle c.args.h c.args.table.now v c.args.x c.args.y c.requires.1 c.requires.2 w.rounds w.d w.invariant.1
-    (unmet_before c.args.h c.args.table.now v c.args.x c.args.y c.requires.1 c.requires.2 w.rounds w.invariant.2)
+    e ∙ hop_idle c.args.h c.args.table.now v c.args.x c.args.y c.requires.1 c.requires.2 w.round w.d w.invariant.0
+    (unmet_before c.args.h c.args.table.now v c.args.x c.args.y c.requires.1 c.requires.2 w.round w.invariant.1)
     (omega (arith, e)) (sym f.ensures.reaches ∙ c.if-not-one_round.true)
-
-pub overflow_add-rounds : goal.overflow_add-rounds
-overflow_add-rounds c =
-    omega (arith, sized (goal.at.overflow_add-rounds c).After-size_of-count, size_fits c.args.h (valid_known c.args.h c.requires.0))
 
 pub lowest_met-z-requires : goal.lowest_met-z-requires
 lowest_met-z-requires c =
     let v = valid_known c.args.h c.requires.0 in
-    let w = c.loop-rounds in
+    let w = c.loop-round in
     let e = sized (goal.at.lowest_met-z-requires c).After-size_of-count in (
       c.requires.0,
       c.requires.5,
       c.requires.1,
       e,
-      unmet_reads c.args.h c.args.table.now v c.args.x c.args.y c.requires.1 c.requires.2 (w.rounds + 1) _
-          (loop_more (linked c.args.h c.args.table.now) (cell_size c.args.h) none c.args.y (replicate (places - cell_size c.args.h) none) w.rounds w.d _ w.invariant.1 c.one_round.ensures.writes)
-          (unmet_next c.args.h c.args.table.now v c.args.x c.args.y c.requires.1 c.requires.2 w.rounds w.invariant.2)
+      unmet_reads c.args.h c.args.table.now v c.args.x c.args.y c.requires.1 c.requires.2 (w.round + 1) _
+          (loop_more (linked c.args.h c.args.table.now) (cell_size c.args.h) none c.args.y (replicate (places - cell_size c.args.h) none) w.round w.d _ w.invariant.0 c.one_round.ensures.writes)
+          (unmet_next c.args.h c.args.table.now v c.args.x c.args.y c.requires.1 c.requires.2 w.round w.invariant.1)
           (omega (arith, e, size_fits c.args.h v)),
     )
 
 pub returns-then-z-count : goal.returns-then-z-count
 returns-then-z-count c =
     let v = valid_known c.args.h c.requires.0 in
-    let w = c.loop-rounds in
+    let w = c.loop-round in
     let e = sized (goal.at.returns-then-z-count c).After-size_of-count in
-    hop_met c.args.h c.args.table.now v c.args.x c.args.y c.requires.1 c.requires.2 (w.rounds + 1) _
-    (loop_more (linked c.args.h c.args.table.now) (cell_size c.args.h) none c.args.y (replicate (places - cell_size c.args.h) none) w.rounds w.d _ w.invariant.1 c.one_round.ensures.writes)
-    (unmet_next c.args.h c.args.table.now v c.args.x c.args.y c.requires.1 c.requires.2 w.rounds w.invariant.2)
+    hop_met c.args.h c.args.table.now v c.args.x c.args.y c.requires.1 c.requires.2 (w.round + 1) _
+    (loop_more (linked c.args.h c.args.table.now) (cell_size c.args.h) none c.args.y (replicate (places - cell_size c.args.h) none) w.round w.d _ w.invariant.0 c.one_round.ensures.writes)
+    (unmet_next c.args.h c.args.table.now v c.args.x c.args.y c.requires.1 c.requires.2 w.round w.invariant.1)
     (omega (arith, e, size_fits c.args.h v)) _ c.lowest_met-z.ensures (omega (arith, e))
 
-pub loop-rounds-preserved : goal.loop-rounds-preserved
-loop-rounds-preserved c =
+pub loop-round-preserved : goal.loop-round-preserved
+loop-round-preserved c =
     let v = valid_known c.args.h c.requires.0 in
-    let w = c.loop-rounds in
-    let e = sized (goal.at.loop-rounds-preserved c).After-size_of-count in
-    let more = loop_more (linked c.args.h c.args.table.now) (cell_size c.args.h) none c.args.y (replicate (places - cell_size c.args.h) none) w.rounds w.d _ w.invariant.1 c.one_round.ensures.writes in (
-      omega arith,
+    let w = c.loop-round in
+    let e = sized (goal.at.loop-round-preserved c).After-size_of-count in
+    let more = loop_more (linked c.args.h c.args.table.now) (cell_size c.args.h) none c.args.y (replicate (places - cell_size c.args.h) none) w.round w.d _ w.invariant.0 c.one_round.ensures.writes in (
       more,
-      still_unmet c.args.h c.args.table.now v c.args.x c.args.y c.requires.1 c.requires.2 (w.rounds + 1) _ more
-          (unmet_next c.args.h c.args.table.now v c.args.x c.args.y c.requires.1 c.requires.2 w.rounds w.invariant.2)
+      still_unmet c.args.h c.args.table.now v c.args.x c.args.y c.requires.1 c.requires.2 (w.round + 1) _ more
+          (unmet_next c.args.h c.args.table.now v c.args.x c.args.y c.requires.1 c.requires.2 w.round w.invariant.1)
           (omega (arith, e, size_fits c.args.h v)) _ c.lowest_met-z.ensures (omega (arith, e)),
     )
 
 pub returns : goal.returns
 returns c =
     let v = valid_known c.args.h c.requires.0 in
-    let w = c.loop-rounds in
+    let w = c.loop-round in
     let e = sized (goal.at.returns c).After-size_of-count in
-    e ∙ hop_full c.args.h c.args.table.now v c.args.x c.args.y c.requires.1 c.requires.2 w.rounds (omega (arith, e))
-    (unmet_before c.args.h c.args.table.now v c.args.x c.args.y c.requires.1 c.requires.2 w.rounds w.invariant.2)
+    e ∙ hop_full c.args.h c.args.table.now v c.args.x c.args.y c.requires.1 c.requires.2 w.round (omega (arith, e))
+    (unmet_before c.args.h c.args.table.now v c.args.x c.args.y c.requires.1 c.requires.2 w.round w.invariant.1)

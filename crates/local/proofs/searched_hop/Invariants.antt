@@ -3,15 +3,12 @@
 use mathlib.Core.Path.{◌≡◌}
 use mathlib.Core.Bool.{false}
 use mathlib.Core.List.{◌++◌}
-use Prim.Native.Nat.{suc, ◌≤◌, ◌+◌, ◌-◌}
+use Prim.Native.Nat.{suc, ◌-◌}
 use lib.ListN.{replicate}
 use Rattle.search.specs.Rounds.{marks}
 use Rattle.search.specs.Reach.{reach}
 use Rattle.local.specs.Local.{places, none, cell_size, linked}
 use Rattle.local.proofs.searched_hop.Given as goal
 
-abbrev pub invariant-loop-rounds : goal.invariant-loop-rounds
-invariant-loop-rounds l = (l.rounds ≤ l.count) × (l.d ≡ marks (linked l.h l.table) (cell_size l.h) none l.y l.rounds ++ replicate (places - cell_size l.h) none) × (reach (linked l.h l.table) (cell_size l.h) l.y (suc l.rounds) l.x ≡ false)
-
-abbrev pub decreases-loop-rounds : goal.decreases-loop-rounds
-decreases-loop-rounds l = l.count - l.rounds
+abbrev pub invariant-loop-round : goal.invariant-loop-round
+invariant-loop-round l = (l.d ≡ marks (linked l.h l.table) (cell_size l.h) none l.y l.round ++ replicate (places - cell_size l.h) none) × (reach (linked l.h l.table) (cell_size l.h) l.y (suc l.round) l.x ≡ false)
