@@ -198,14 +198,14 @@ fn one_round(h: Hall, table: &[u8], d: &mut [u8; 72], r: u8) -> bool
 fn unreached() -> [u8; 72]
     ensures { result ≡ replicate places none }
 {
-    [255u8; 72]
+    [NONE; 72]
 }
 
 // What a refusal tells of distances.
 fn untold() -> [u8; 72]
     ensures { result ≡ replicate places 0 }
 {
-    [0u8; 72]
+    [0; 72]
 }
 
 // The distance of each place from the place o.

@@ -8,4 +8,4 @@ use Rattle.local.specs.Local.{places, none, cell_size, linked}
 use Rattle.local.proofs.distances_from.Given as goal
 
 abbrev pub invariant-loop-r : goal.invariant-loop-r
-invariant-loop-r l = (l.d ≡ marks (linked l.h l.table) (cell_size l.h) none l.o l.r ++ replicate (places - cell_size l.h) none)
+invariant-loop-r l = l.d ≡ marks (linked l.h l.table) (cell_size l.h) none l.o l.r ++ replicate (places - cell_size l.h) none

@@ -6,4 +6,4 @@ use Rattle.local.specs.Looks.{gives_by}
 use Rattle.local.proofs.lowest_giving.Given as goal
 
 abbrev pub invariant-loop-z : goal.invariant-loop-z
-invariant-loop-z l = (lowest_from (gives_by l.h l.table l.d l.r l.s) (l.h.n - l.z) l.z ≡ lowest_from (gives_by l.h l.table l.d l.r l.s) l.h.n 0)
+invariant-loop-z l = lowest_from (gives_by l.h l.table l.d l.r l.s) (l.h.n - l.z) l.z ≡ lowest_from (gives_by l.h l.table l.d l.r l.s) l.h.n 0
