@@ -1,9 +1,8 @@
 -- Laws of sweeps: a sweep changes no answer to "who is reached before round r", so a sweep behind another is one sweep that reaches who
 -- passes either test; and a sweep whose test is that of a round is the round.
 use mathlib.Core.Path.{◌≡◌, refl, sym, ◌∙◌, ap}
-use mathlib.Core.Bool.{Bool, true, false}
+use mathlib.Core.Bool.{Bool, true, false, ◌||◌}
 use mathlib.Core.List.{List}
-use mathlib.Core.Logic.{◌⊎◌, inl, inr}
 use Prim.Native.Nat.{ℕ, ◌+◌, ◌≤◌, ◌<◌}
 use native.Mathlib.Omega.{arith}
 use lib.Dec.{eqb, leb, ltb}
@@ -11,7 +10,7 @@ use lib.ListN.{length, get_or, set, length-set, get_or-eq_default}
 use lib.Seq.{get_or-set_same, get_or-set_other}
 use borrow.Author.Tests.{eqb-true, eqb-false, eq-eqb, ne_eqb, ltb-true, ltb-false, lt-ltb, le-ltb, lt-leb}
 use Rattle.combine.specs.Tests.{pick, both, either, any_below}
-use Rattle.combine.proofs.Tests.{cases, never, both_ways, both_left, both_right, both_true, both_false, both_either, either_left, either_right, either_cases, either_false, any_in, any_some, any_cong}
+use Rattle.combine.proofs.Tests.{cases, never, both_ways, both_left, both_right, both_true, both_false, both_either, either_left, either_right, either_cases, any_in, any_some, any_cong}
 use Rattle.broadcast.specs.Broadcasts.{none}
 use Rattle.broadcast.specs.Sweeps.{fresh, swept, Sweep}
 
@@ -200,7 +199,7 @@ pub fresh_now : (q : ℕ → Bool) (r : ℕ) (old room : List ℕ) (any : Bool) 
 unfolding fresh
 fresh_now q r old room any b p s = ap (λ (k : ℕ). both (eqb k none) (p b)) (s.each b ∙ swept_old (below q b) r old b (fresh_not_below q old b))
 
--- where both ways of a branch meet: somebody is reached
-pub told_either : (a b c : Bool) → ((b ≡ true) × (c ≡ true)) ⊎ ((b ≡ false) × (c ≡ a)) → c ≡ either a b
-told_either a b c (inl w) = w.1 ∙ sym (either_right a b w.0)
-told_either a b c (inr w) = w.1 ∙ rw w.0 (sym (either_false a))
+-- what the code joins by `|` is joined by `either`
+pub or_either : (a b : Bool) → (a || b) ≡ either a b
+or_either true b = refl
+or_either false b = refl

@@ -16,7 +16,7 @@ use Rattle.combine.specs.Tests.{pick, both, either, any_below}
 use Rattle.combine.proofs.Tests.{cases, never, both_ways, both_left, both_right, both_false, both_either, either_false, any_in, any_some}
 use Rattle.hall.specs.declared.Hall.{Hall}
 use Rattle.hall.specs.Cells.{t, cell, neighbour}
-use Rattle.hall.proofs.Cells.{same_mono, neighbour_stays}
+use Rattle.hall.proofs.Cells.{same_mono, neighbour_stays, t_pos}
 use Rattle.hall.proofs.Place.{sub_below}
 use Rattle.hall.proofs.Growth.{t_more, t_up}
 use Rattle.ports.specs.Codes.{up}
@@ -26,7 +26,7 @@ use Rattle.search.specs.Rounds.{leads, new, mark, round}
 use Rattle.search.proofs.Rounds.{length-round, round_at}
 use Rattle.search.proofs.Filled.{filled_behind}
 use Rattle.broadcast.specs.Broadcasts.{none}
-use Rattle.broadcast.specs.Sweeps.{reached_by, fresh, swept, Sweep, between, open_on, on_switch, on_switches, over_link, on_links, on_levels, within, place_at, neighbour_at, PlaceFits, RoundFits, Behind}
+use Rattle.broadcast.specs.Sweeps.{reached_by, fresh, swept, Sweep, between, open_on, on_switch, on_switches, over_link, on_links, on_levels, within, place_at, neighbour_at, PlaceFits, RoundFits, LinksFit, Behind}
 use Rattle.broadcast.specs.declared.places.Place.{Place}
 use Rattle.broadcast.proofs.Marks.{below, swept_old, sweep_reads}
 
@@ -294,3 +294,13 @@ place_fits T x pos small b = record {
 pub near_is : (n j T x y : ℕ) (p : Place) → T ≡ t n j → p ≡ place_at T x → y ≡ neighbour_at T p → y ≡ neighbour n j x
 unfolding neighbour
 near_is n j T x y p e f g = g ∙ rw (f, e)
+
+-- a sweep over the links of a level: a sub-cell has servers, and the numbers of each place fit
+module _ (h : Hall) (size j c r : ℕ) (room : List ℕ) (k : LinksFit h size j c r room) where
+  pub links_pos : 0 < c
+  links_pos = rw k.cell_is (t_pos h.n (omega (arith, k.fits.n_low)) j)
+
+  pub links_place : (x : ℕ) → x < size → PlaceFits c (place_at c x)
+  links_place x l =
+      let small : c ≤ 72 = rw k.cell_is (cell_fits h k.scope size r room k.fits j k.below) in
+      place_fits c x links_pos small (omega (arith, scope_fits_lem h k.scope size r room k.fits))

@@ -17,7 +17,7 @@ use Rattle.search.proofs.Stops.{Idle, idle_same, idle_ends}
 use Rattle.broadcast.specs.Broadcasts.{none}
 use Rattle.broadcast.specs.Sweeps.{Sweep, reached_by, on_switches, on_levels, within, RoundFits, Behind, Ready}
 use Rattle.broadcast.proofs.Marks.{sweep_cong, sweep_then}
-use Rattle.broadcast.proofs.Reaches.{reads_same, within_split, round_made, any_made, scope_fits_lem}
+use Rattle.broadcast.proofs.Reaches.{reads_same, within_split, round_made, any_made, scope_fits_lem, fits_next}
 
 -- the sweep over the switches, then that over the levels
 pub sweeps_make : (h : Hall) (table : List ℕ) (s size r : ℕ) (old mid room : List ℕ) (a b : Bool) → RoundFits h s size r old
@@ -39,6 +39,10 @@ pub ready_marks : (h : Hall) (table : List ℕ) (s size o : ℕ) (room : List �
 ready_marks h table s size o room k =
     sym (take-append-drop {A = ℕ} size room)
     ∙ ap (λ (l : List ℕ). l ++ drop size room) (k.begun ∙ sym (marks_start (joined h table s) size none o))
+
+-- each round fits the room as it has become
+pub ready_fits : (h : Hall) (s size o r : ℕ) (first room : List ℕ) → Ready h s size o first → length room ≡ length first → r < size → RoundFits h s size r room
+ready_fits h s size o r first room k e l = fits_next h s size 0 first k.fits room r e (omega (arith, scope_fits_lem h s size 0 first k.fits))
 
 -- and so nobody behind them is reached while the rounds go on
 pub ready_behind : (h : Hall) (table : List ℕ) (s size o r : ℕ) (first room : List ℕ) → Ready h s size o first

@@ -29,12 +29,10 @@ fn is_live(h: Hall, table: &[u8], room: &[u16], r: u16, s: u32) -> bool
     ensures { result ≡ switch_has h table.now (reached_by r room.now) s }
 {
     let first = s * h.n;
-    let mut i: u32 = 0;
-    while i < h.n {
+    for i in 0..h.n {
         if is_ready(h, table, room, r, first + i) {
             return true;
         }
-        i += 1;
     }
     false
 }
@@ -57,15 +55,13 @@ fn fill_switch(h: Hall, table: &[u8], room: &mut [u16], r: u16, s: u32) -> bool
     ensures { Sweep (open_on h table.now s) r room.old room.new result }
 {
     let mut any = false;
-    let mut x = s * h.n;
-    let end = x + h.n;
-    while x < end {
+    let first = s * h.n;
+    for x in first..first + h.n {
         if is_open(h, table, room, x) {
             let at = x as usize;
             room[at] = r + 1;
             any = true;
         }
-        x += 1;
     }
     any
 }
@@ -87,12 +83,8 @@ fn over_switches(h: Hall, table: &[u8], room: &mut [u16], r: u16, count: u32) ->
     ensures { Sweep (on_switches h table.now (reached_by r room.old) (count * h.n)) r room.old room.new result }
 {
     let mut any = false;
-    let mut s: u32 = 0;
-    while s < count {
-        if over_switch(h, table, room, r, s) {
-            any = true;
-        }
-        s += 1;
+    for s in 0..count {
+        any |= over_switch(h, table, room, r, s);
     }
     any
 }
@@ -127,15 +119,13 @@ fn over_links(h: Hall, table: &[u8], room: &mut [u16], r: u16, size: u32, j: u32
         sub: 0,
         inside: 0,
     };
-    let mut x: u32 = 0;
-    while x < size {
+    for x in 0..size {
         if is_reached(h, table, room, r, j + 1, x, neighbour_at(cell, p)) {
             let at = x as usize;
             room[at] = r + 1;
             any = true;
         }
         p = next_place(cell, p);
-        x += 1;
     }
     any
 }
@@ -147,13 +137,9 @@ fn over_levels(h: Hall, table: &[u8], room: &mut [u16], r: u16, size: u32, level
 {
     let mut any = false;
     let mut cell = h.n;
-    let mut j: u32 = 0;
-    while j < levels {
-        if over_links(h, table, room, r, size, j, cell) {
-            any = true;
-        }
+    for j in 0..levels {
+        any |= over_links(h, table, room, r, size, j, cell);
         cell = (cell + 1) * cell;
-        j += 1;
     }
     any
 }
@@ -171,8 +157,5 @@ pub(crate) fn one_round(
     ensures { Sweep (within h table.now (reached_by r room.old) size scope) r room.old room.new result }
 {
     let any = over_switches(h, table, room, r, size / h.n);
-    if over_levels(h, table, room, r, size, scope) {
-        return true;
-    }
-    any
+    any | over_levels(h, table, room, r, size, scope)
 }

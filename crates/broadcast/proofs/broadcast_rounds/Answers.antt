@@ -2,11 +2,9 @@
 -- the run of the table for the source's DCell(s) lies within the table, and the rounds over it, among the fitted servers, are those of the hall table.
 use mathlib.Core.Path.{◌≡◌, refl, ◌∙◌, sym}
 use Prim.Native.Nat.{◌+◌, ◌*◌}
-use native.Mathlib.Nat.{div-le_self}
 use native.Mathlib.Omega.{arith}
-use Rattle.ports.proofs.Parts.{product_fits}
 use Rattle.broadcast.specs.Broadcasts.{scope_size}
-use Rattle.broadcast.proofs.Calls.{scope_size_lem, Accepted, accepted, answer_refused, room_as_lent, size_pos, scoped, origin_low, run_ends, run_is, room_alone, answer_alone, begun_ready, room_long, room_at_exit, answer_is}
+use Rattle.broadcast.proofs.Calls.{scope_size_lem, Accepted, accepted, size_pos, scoped, origin_low, run_ends, run_is, room_alone, answer_alone, begun_ready, room_long, room_at_exit, answer_is}
 use Rattle.broadcast.proofs.broadcast_rounds.Goals.{After-size_of-size}
 use Rattle.broadcast.proofs.broadcast_rounds.Goals as goal
 
@@ -21,28 +19,11 @@ sized c =
     let a = c.args in
     scope_size_lem a.h a.scope _ (taken c).sound.is_valid (taken c).scope c.size_of-size.ensures
 
-pub returns-then-number-ne0 : goal.returns-then-number-ne0
-returns-then-number-ne0 c =
-    let a = c.args in
-    let n = c.refused-number in record { answer = answer_refused a.h a.table.now a.source a.scope a.room.now n.result n.ensures c.if-number-ne0.true; room = room_as_lent a.h a.table.now a.source a.scope a.room.now n.result n.ensures c.if-number-ne0.true }
-
-pub overflow_mul-bytes : goal.overflow_mul-bytes
-overflow_mul-bytes c = omega (arith, product_fits c.size_of-size.result c.args.h.k (omega arith) (omega arith))
-
 pub nonzero_div-from : goal.nonzero_div-from
 nonzero_div-from c =
     let a = c.args in
     let z = c.size_of-size in
     size_pos a.h a.table.now a.source a.scope a.room.now (taken (goal.at.nonzero_div-from c).After-size_of-size) z.result (sized (goal.at.nonzero_div-from c).After-size_of-size)
-
-pub overflow_cast-from : goal.overflow_cast-from
-overflow_cast-from c = omega (arith, div-le_self c.args.source c.size_of-size.result)
-
-pub overflow_mul-from : goal.overflow_mul-from
-overflow_mul-from c =
-    let a = c.args in
-    let z = c.size_of-size in
-    omega (arith, run_ends a.h a.table.now a.source a.scope a.room.now (taken (goal.at.overflow_mul-from c).After-size_of-size) z.result (sized (goal.at.overflow_mul-from c).After-size_of-size) (z.result * (a.h.k + 1)) refl)
 
 pub overflow_add-to : goal.overflow_add-to
 overflow_add-to c =

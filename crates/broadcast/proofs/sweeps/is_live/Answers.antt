@@ -6,17 +6,8 @@ use Rattle.ports.specs.Links.{switch_has}
 use Rattle.broadcast.proofs.sweeps.is_live.Invariants.{ready}
 use Rattle.broadcast.proofs.sweeps.is_live.Goals as goal
 
-pub overflow_mul-first : goal.overflow_mul-first
-overflow_mul-first c = let k = c.requires in omega arith
-
 pub loop-i-init : goal.loop-i-init
-loop-i-init c = (omega arith, any_none _)
-
-pub overflow_add-first : goal.overflow_add-first
-overflow_add-first c = let k = c.requires in omega arith
-
-pub is_ready-requires : goal.is_ready-requires
-is_ready-requires c = let k = c.requires in omega arith
+loop-i-init c = any_none _
 
 pub returns-then-is_ready : goal.returns-then-is_ready
 unfolding switch_has
@@ -27,10 +18,10 @@ returns-then-is_ready c =
 pub loop-i-preserved : goal.loop-i-preserved
 loop-i-preserved c =
     let a = c.args in
-    (omega arith, rw (any_more (ready a.h a.table.now a.room.now a.r a.s), c.loop-i.invariant.1, ← c.is_ready.ensures) c.if-is_ready.false)
+    rw (any_more (ready a.h a.table.now a.room.now a.r a.s), c.loop-i.invariant, ← c.is_ready.ensures) c.if-is_ready.false
 
 pub returns : goal.returns
 unfolding switch_has
 returns c =
     let e : c.loop-i.i ≡ c.args.h.n = omega arith in
-    sym (rw e at c.loop-i.invariant.1)
+    sym (rw e at c.loop-i.invariant)

@@ -2,7 +2,7 @@
 use mathlib.Core.Path.{◌≡◌}
 use mathlib.Core.Bool.{Bool, false}
 use mathlib.Core.List.{List}
-use Prim.Native.Nat.{ℕ, ◌≤◌, ◌-◌, ◌+◌, ◌*◌}
+use Prim.Native.Nat.{ℕ, ◌+◌, ◌*◌}
 use Rattle.combine.specs.Tests.{both, any_below}
 use Rattle.hall.specs.declared.Hall.{Hall}
 use Rattle.ports.specs.Codes.{up}
@@ -13,7 +13,4 @@ abbrev pub ready : Hall → List ℕ → List ℕ → ℕ → ℕ → ℕ → Bo
 ready h table room r s i = both (reached_by r room (s * h.n + i)) (up h table (s * h.n + i) 0)
 
 abbrev pub invariant-loop-i : goal.invariant-loop-i
-invariant-loop-i l = (l.i ≤ l.h.n) × (any_below (ready l.h l.table l.room l.r l.s) l.i ≡ false)
-
-abbrev pub decreases-loop-i : goal.decreases-loop-i
-decreases-loop-i l = l.h.n - l.i
+invariant-loop-i l = any_below (ready l.h l.table l.room l.r l.s) l.i ≡ false

@@ -5,18 +5,12 @@ use Rattle.broadcast.proofs.Marks.{sweep_none, sweep_cong}
 use Rattle.broadcast.proofs.Reaches.{dead_switch, live_switch}
 use Rattle.broadcast.proofs.sweeps.over_switch.Goals as goal
 
-pub is_live-requires : goal.is_live-requires
-is_live-requires c = c.requires.0
-
 pub returns-then-not-is_live : goal.returns-then-not-is_live
 returns-then-not-is_live c =
     let a = c.args in
     let v = c.is_live in
     sweep_none (on_switch a.h a.table.now (reached_by a.r a.room.now) a.s) a.r a.room.now
     (λ x. dead_switch a.h a.table.now (reached_by a.r a.room.now) a.s a.room.now x (sym v.ensures ∙ c.if-not-is_live.true))
-
-pub fill_switch-requires : goal.fill_switch-requires
-fill_switch-requires c = c.requires
 
 pub returns : goal.returns
 returns c =

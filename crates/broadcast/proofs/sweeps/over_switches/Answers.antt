@@ -1,17 +1,13 @@
 -- `broadcast::sweeps::over_switches` meets its contract: the loop has swept the switches that it has passed.
-use mathlib.Core.Path.{◌≡◌, ◌∙◌, sym}
 use mathlib.Core.Bool.{Bool}
 use mathlib.Core.List.{List}
 use Prim.Native.Nat.{ℕ, ◌≤◌, ◌<◌, ◌+◌, ◌*◌}
 use native.Mathlib.Nat.{mul-le-mul_right}
 use native.Mathlib.Omega.{arith}
-use borrow.Author.Rules.{rules}
 use Rattle.combine.specs.Tests.{either}
-use Rattle.combine.proofs.Tests.{either_true, either_false}
 use Rattle.broadcast.specs.Sweeps.{Sweep, reached_by, on_switch, on_switches}
-use Rattle.broadcast.proofs.Marks.{sweep_none, sweep_cong, sweep_then}
+use Rattle.broadcast.proofs.Marks.{or_either, sweep_none, sweep_cong, sweep_then}
 use Rattle.broadcast.proofs.Reaches.{reads_same, switches_start, switches_next}
-use Rattle.broadcast.proofs.sweeps.over_switches.Goals.{then-over_switch, else-over_switch}
 use Rattle.broadcast.proofs.sweeps.over_switches.Goals as goal
 
 -- a switch below so many lies among theirs
@@ -23,40 +19,20 @@ next_switch s count n l =
 pub loop-s-init : goal.loop-s-init
 loop-s-init c =
     let a = c.args in
-    (omega arith, search rules, sweep_none (on_switches a.h a.table.now (reached_by a.r a.room.now) (0 * a.h.n)) a.r a.room.now (switches_start a.h a.table.now (reached_by a.r a.room.now) a.room.now))
-
-pub over_switch-requires : goal.over_switch-requires
-over_switch-requires c =
-    let a = c.args in
-    let k = c.requires in
-    let n = next_switch c.loop-s.s a.count a.h.n c.loop-s-test.true in
-    (record { inside = omega (arith, k.1); small = omega (arith, k.2) }, k.3)
+    sweep_none (on_switches a.h a.table.now (reached_by a.r a.room.now) (0 * a.h.n)) a.r a.room.now (switches_start a.h a.table.now (reached_by a.r a.room.now) a.room.now)
 
 pub loop-s-preserved : goal.loop-s-preserved
 loop-s-preserved c =
     let a = c.args in
     let k = c.requires in
     let w = c.loop-s in
-    let f = c.over_switch in
+    let f = c.over_switch-any in
     let old : List ℕ = a.room.now in
     let p : ℕ → Bool = reached_by a.r old in
     let q : ℕ → Bool = on_switches a.h a.table.now p (w.s * a.h.n) in
-    let same = reads_same q a.r old w.room w.any (omega (arith, k.3)) w.invariant.2 in
+    let same = reads_same q a.r old w.room w.any (omega (arith, k.3)) w.invariant in
     let mine : Sweep (on_switch a.h a.table.now p w.s) a.r w.room _ f.result = rw same at f.ensures in
     let swept = sweep_cong (λ y. either (q y) (on_switch a.h a.table.now p w.s y)) (on_switches a.h a.table.now p ((w.s + 1) * a.h.n)) a.r old _ (either w.any f.result)
     (switches_next a.h a.table.now p w.s old)
-    (sweep_then q (on_switch a.h a.table.now p w.s) a.r old w.room _ w.any f.result (omega (arith, k.3)) w.invariant.2 mine) in
-    let told : c.if-over_switch.any ≡ either w.any f.result =
-    elim c.if-over_switch.branch [
-      | then-over_switch b ↦ b.any-is ∙ rw b.if-over_switch.true (sym (either_true w.any))
-      | else-over_switch b ↦ b.any-is ∙ rw b.if-over_switch.false (sym (either_false w.any))
-    ] in
-    (omega arith, swept.long, rw told swept)
-
-pub shape_of-room : goal.shape_of-room
-shape_of-room c = c.loop-s.invariant.1
-
-pub returns : goal.returns
-returns c =
-    let e : c.loop-s.s ≡ c.args.count = omega arith in
-    rw e at c.loop-s.invariant.2
+    (sweep_then q (on_switch a.h a.table.now p w.s) a.r old w.room _ w.any f.result (omega (arith, k.3)) w.invariant mine) in
+    rw or_either swept

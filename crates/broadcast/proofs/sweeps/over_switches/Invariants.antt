@@ -1,12 +1,7 @@
 -- `broadcast::sweeps::over_switches` meets its contract: the loop has swept the switches that it has passed.
-use mathlib.Core.Path.{◌≡◌}
-use Prim.Native.Nat.{◌≤◌, ◌-◌, ◌*◌}
-use lib.ListN.{length}
+use Prim.Native.Nat.{◌*◌}
 use Rattle.broadcast.specs.Sweeps.{Sweep, reached_by, on_switches}
 use Rattle.broadcast.proofs.sweeps.over_switches.Given as goal
 
 abbrev pub invariant-loop-s : goal.invariant-loop-s
-invariant-loop-s l = (l.s ≤ l.count) × (length l.room ≡ length l.initial.room) × Sweep (on_switches l.h l.table (reached_by l.r l.initial.room) (l.s * l.h.n)) l.r l.initial.room l.room l.any
-
-abbrev pub decreases-loop-s : goal.decreases-loop-s
-decreases-loop-s l = l.count - l.s
+invariant-loop-s l = Sweep (on_switches l.h l.table (reached_by l.r l.initial.room) (l.s * l.h.n)) l.r l.initial.room l.room l.any
