@@ -1,22 +1,24 @@
 -- What the planner refuses, test by test, and what `is_fitted` answers in each of its cases.
 use mathlib.Core.Path.{◌≡◌, refl, sym, ◌∙◌, ap}
 use mathlib.Core.Bool.{Bool, true, false, not}
-use mathlib.Core.List.{[], ◌∷◌}
-use Prim.Native.Nat.{ℕ, ◌-◌, ◌*◌, ◌<◌, ◌≤◌}
+use mathlib.Core.List.{List, [], ◌∷◌}
+use Prim.Native.Nat.{ℕ, ◌+◌, ◌-◌, ◌*◌, ◌<◌, ◌≤◌}
 use native.Mathlib.Omega.{arith}
 use lib.Dec.{eqb, leb, ltb}
 use borrow.Author.Tests.{eq-eqb, ne_eqb, lt-ltb, le-ltb, leb-true, le-leb, lt-leb, eqb-true, eqb-false, ltb-true, ltb-false}
+use Rattle.std.specs.Prelude.{Ok}
 use Rattle.combine.specs.Tests.{pick}
+use Rattle.combine.specs.Lists.{up_to}
 use Rattle.combine.proofs.Tests.{cases}
 use Rattle.hall.specs.declared.Hall.{Hall}
 use Rattle.hall.specs.Refusals.{refusal, bad_hall, hall_full}
 use Rattle.hall.specs.Cells.{t}
-use Rattle.hall.specs.Halls.{most_n, top, largest, Sized, capacity, n_fits, k_fits, count_fits, valid, is_full, servers}
+use Rattle.hall.specs.Halls.{places, most_n, top, largest, Sized, capacity, n_fits, k_fits, count_fits, valid, is_full, servers}
 use Rattle.hall.specs.Answers.{size_of, racks_of}
-use Rattle.hall.proofs.Growth.{Valid, valid_known, size_at_lem, no_servers, some_servers}
+use Rattle.hall.proofs.Growth.{Valid, valid_known, size_at_lem, sized_below, no_servers, some_servers}
 use Rattle.hall.proofs.Racks.{racks_known, count_most, racks_servers}
 use Rattle.plan.specs.Plan.{rank, prefix_of}
-use Rattle.plan.specs.Answers.{fitted, first_fitted, is_fitted, asks_plan}
+use Rattle.plan.specs.Answers.{fitted, first_fitted, is_fitted, asks_plan, prefix_at, next_prefix, prefix_stated}
 use Rattle.plan.proofs.First.{first_fitted_lem, first_servers}
 
 by_tests : (v k f : Bool) → refusal ((bad_hall, v) ∷ (bad_hall, k) ∷ (hall_full, not f) ∷ []) ≡ pick v (pick k (pick f 12 0) 1) 1
@@ -82,6 +84,20 @@ module _ (h : Hall) where
       (λ k. let q : 1 ≡ 0 = rw (v, k) at p in absurd (omega arith)))
       (λ v. let q : 1 ≡ 0 = rw v at p in absurd (omega arith))
 
+  -- the numbers of a hall whose planner is not refused, and its prefix
+  module _ (e : 0 ≡ refusal (asks_plan h)) where
+    pub planned_high : 1 ≤ h.k
+    planned_high = omega (arith, (room (sym e)).high)
+
+    pub planned_low : 2 ≤ h.n
+    planned_low = (room (sym e)).known.n_low
+
+    pub planned_sized : Sized h.n (h.k - 1 + 1)
+    planned_sized = let w = room (sym e) in sized_below h.n h.k (h.k - 1 + 1) w.known.sized (omega (arith, w.high))
+
+    pub planned_prefix : (entries : List ℕ) → entries ≡ up_to (prefix_at h.n (h.k - 1 + 1) h.count) places → prefix_stated (Ok entries) ≡ next_prefix h
+    planned_prefix entries q = let k : h.k - 1 + 1 ≡ h.k = omega (arith, (room (sym e)).high) in rw (← e, q, k)
+
   -- a server of the hall is fitted as the call tells
   pub told_fitted : (u : ℕ) → valid h ≡ true → u < servers h → is_fitted h u ≡ fitted h u
   told_fitted u v l = rw (v, lt-ltb u (servers h) l)
@@ -143,3 +159,6 @@ module _ (h : Hall) where
 
 -- the planner's refusals, ask by ask, from the servers that a hall has
 pub ruleset plan_asked = (no_servers, some_servers, refused_hall, refused_low, refused_full, refused_not)
+
+-- the planner's prefix, where it is not refused
+pub ruleset plan_good = (planned_high, planned_low, planned_sized, planned_prefix)

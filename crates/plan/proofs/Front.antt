@@ -1,10 +1,11 @@
 -- In a DCell2 the fitted DCell1s are the first ones: within a sub-cell the rank grows with the index, so a server before a fitted one is fitted.
-use mathlib.Core.Path.{◌≡◌, sym, ◌∙◌, ap}
-use mathlib.Core.Bool.{Bool, true}
+use mathlib.Core.Path.{◌≡◌, refl, sym, ◌∙◌, ap}
+use mathlib.Core.Bool.{Bool, true, false}
 use Prim.Native.Nat.{ℕ, zero, suc, ◌+◌, ◌-◌, ◌*◌, ◌/◌, ◌%◌, ◌<◌, ◌≤◌}
 use native.Mathlib.Nat.{mod-lt, div-add-mod', div-lt_iff_lt-mul, mul-le-mul_right}
 use native.Mathlib.Numerals.{add-one}
 use native.Mathlib.Omega.{arith}
+use mir.Val.{bool_byte}
 use lib.Dec.{eqb, leb, ltb}
 use lib.Arith.{digits_div}
 use borrow.Author.Tests.{ltb-true, ltb-false, lt-ltb, le-ltb, le-leb, lt-leb, eqb-true, eqb-false}
@@ -133,6 +134,11 @@ module _ (h : Hall) where
         (λ k. lt-ltb x (f * T) ((div-lt_iff_lt-mul z).0 (ltb-true (x / T) f k)))
         (λ k. lt-ltb (x / T) f ((div-lt_iff_lt-mul z).1 (ltb-true x (f * T) k)))
 
+-- a test as a number: 1 where it holds, else 0
+byte_pick : (b : Bool) → bool_byte b ≡ pick b 1 0
+byte_pick true = refl
+byte_pick false = refl
+
 -- one more DCell1 of the hall, as the code counts it
 module _ (h : Hall) (first most q : ℕ) (s : Racks h first most) (l : q < most) where
   rack_pos : 0 < t h.n 1
@@ -144,11 +150,11 @@ module _ (h : Hall) (first most q : ℕ) (s : Racks h first most) (l : q < most)
   pub rack_fits : first + q * t h.n 1 < largest
   rack_fits = uid_fits h (valid_known h s.sound) (first + q * t h.n 1) rack_below
 
-  pub rack_counts : (b : Bool) (r d size : ℕ) → size ≡ t h.n 1 → b ≡ is_fitted h (first + q * size) → d ≡ pick b 1 0 → r ≡ front h first q → r + d ≡ front h first (q + 1)
+  pub rack_counts : (b : Bool) (r d size : ℕ) → size ≡ t h.n 1 → b ≡ is_fitted h (first + q * size) → d ≡ bool_byte b → r ≡ front h first q → r + d ≡ front h first (q + 1)
   unfolding front
   rack_counts b r d size ez eb ed er =
       let f : b ≡ fitted h (first + q * t h.n 1) = eb ∙ rw (ez, s.sound, lt-ltb (first + q * t h.n 1) (servers h) rack_below) in
-      rw (add-one q, er, ed, f)
+      rw (add-one q, er, ed, byte_pick b, f)
 
 -- no more than there are
 pub front_most : (h : Hall) (first most : ℕ) → front h first most ≤ most

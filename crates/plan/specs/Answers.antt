@@ -1,13 +1,13 @@
 -- What the planner answers, and which servers of a hall are fitted.
 -- Request K5; section "Refusal numbers".
-use Rattle.std.specs.Prelude.{◌≡◌, Bool, true, not, List, [], ◌∷◌, ℕ, zero, suc, ◌+◌, ◌-◌, ◌*◌, ◌≤◌, eqb, leb, ltb, get_or, replicate}
+use Rattle.std.specs.Prelude.{◌≡◌, Bool, true, not, List, [], ◌∷◌, ℕ, zero, suc, ◌+◌, ◌-◌, ◌*◌, ◌≤◌, eqb, leb, ltb, get_or, replicate, Result}
 use Rattle.combine.specs.Tests.{pick, both, either}
 use Rattle.combine.specs.Lists.{up_to}
 use Rattle.hall.specs.declared.Hall.{Hall}
-use Rattle.hall.specs.Refusals.{Ask, refusal, answered, bad_hall, hall_full}
+use Rattle.hall.specs.declared.refusals.Refusal.{Refusal}
+use Rattle.hall.specs.Refusals.{Ask, refusal, answered, stated, bad_hall, hall_full}
 use Rattle.hall.specs.Cells.{t, cell}
 use Rattle.hall.specs.Halls.{places, valid, is_full, servers, asks_hall}
-use Rattle.plan.specs.declared.Prefix.{Prefix}
 use Rattle.plan.specs.Plan.{place, fitted_by}
 
 -- server u is fitted: its DCell1 is among the first `count`
@@ -47,9 +47,20 @@ asks_plan h = asks_hall h ∷ (bad_hall, leb 2 h.k) ∷ (hall_full, not (is_full
 unfoldable pub prefix_at : ℕ → ℕ → ℕ → ℕ → ℕ
 prefix_at n k count i = pick (both (leb 2 i) (leb i k)) (get_or (place n (k - 1) count) (k - i) 0) 0
 
--- the prefix of the next DCell1, its entries in their places of a tuple
-abbrev pub next_prefix : Hall → Prefix
+-- the prefix of the next DCell1, its entries in their places of a tuple, and what a refusal answers
+pub record PrefixAnswer : Type 0 where
+  pub refusal : ℕ
+  pub entries : List ℕ
+
+abbrev pub no_prefix : ℕ → PrefixAnswer
+no_prefix number = record { refusal = number; entries = replicate places 0 }
+
+abbrev pub next_prefix : Hall → PrefixAnswer
 next_prefix h =
     answered (refusal (asks_plan h))
     (record { refusal = 0; entries = up_to (prefix_at h.n h.k h.count) places })
-    (λ number. record { refusal = number; entries = replicate places 0 })
+    no_prefix
+
+-- the number and the entries of an answer
+abbrev pub prefix_stated : Result (List ℕ) Refusal → PrefixAnswer
+prefix_stated = stated (λ entries. record { refusal = 0; entries = entries }) no_prefix

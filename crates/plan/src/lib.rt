@@ -3,23 +3,15 @@
 #![tactic(auto)]
 
 ghost use Rattle.std.specs.Prelude.{◌≡◌, true, ◌+◌, ◌*◌, ◌≤◌, ◌<◌};
-ghost use Rattle.combine.specs.Tests.{pick};
 ghost use Rattle.combine.specs.Lists.{up_to};
 ghost use Rattle.hall.specs.Cells.{t};
-ghost use Rattle.hall.specs.Refusals.{refusal};
+ghost use Rattle.hall.specs.Refusals.{refusal, refusal_in};
 ghost use Rattle.hall.specs.Halls.{most_n, largest, places, Sized, valid};
 ghost use Rattle.plan.specs.Plan.{index, inside, before, rank, prefix_of};
-ghost use Rattle.plan.specs.Answers.{asks_plan, prefix_at, next_prefix, first_fitted, is_fitted, front, fitted_servers, Racks};
+ghost use Rattle.plan.specs.Answers.{asks_plan, prefix_at, next_prefix, prefix_stated, first_fitted, is_fitted, front, fitted_servers, Racks};
 
-use hall::refusals::{BAD_HALL, HALL_FULL};
+use hall::refusals::Refusal;
 use hall::{Hall, PLACES};
-
-// The prefix of the next DCell1: place i holds a(i) for i from 2 to k, so that it is the tuple of the DCell1's first server.
-#[derive(Clone, Copy)]
-pub struct Prefix {
-    pub refusal: u32,
-    pub entries: [u32; PLACES],
-}
 
 // With g = t(1) + 1, sub-cells of r DCell1s each, and c fitted: the sub-cell of the next.
 fn sub_cell(g: u32, r: u32, c: u32) -> u32
@@ -51,55 +43,46 @@ fn sub_count(g: u32, r: u32, c: u32) -> u32
 
 // The prefix of the next DCell1 in a DCell of level m + 1, where c are fitted: from the highest level down.
 fn prefix_up_to(n: u32, m: u32, c: u32) -> [u32; PLACES]
-    requires { (2 ≤ n) × Sized n (m + 1) }
+    requires low { 2 ≤ n }
+    requires sized { Sized n (m + 1) }
     ensures { result ≡ up_to (prefix_at n (m + 1) c) places }
 {
     let g = (n + 1) * n + 1;
     let mut entries = [0u32; PLACES];
     let mut d = c;
-    let mut j = m;
-    while 0 < j {
+    for j in (1..=m).rev() {
         let r = hall::racks_of(n, j);
         let at = (j + 1) as usize;
         entries[at] = sub_cell(g, r, d);
         d = sub_count(g, r, d);
-        j -= 1;
     }
     entries
 }
 
-// Why the planner is refused, 0 where it is not.
+// Why the planner is refused.
 #[tactic(auto, using(crate::proofs::Asks::plan_asked))]
-fn refused(h: Hall) -> u32
-    ensures { result ≡ refusal (asks_plan h) }
+fn refused(h: Hall) -> Result<(), Refusal>
+    ensures { refusal_in result ≡ refusal (asks_plan h) }
 {
     if hall::servers_of(h) == 0 {
-        return BAD_HALL;
+        return Err(Refusal::BadHall);
     }
     if h.k < 2 {
-        return BAD_HALL;
+        return Err(Refusal::BadHall);
     }
     if h.count == hall::racks_of(h.n, h.k) {
-        return HALL_FULL;
+        return Err(Refusal::HallFull);
     }
-    0
+    Ok(())
 }
 
-// The prefix of the next DCell1 of a hall.
-pub fn next_prefix(h: Hall) -> Prefix
-    ensures { result ≡ next_prefix h }
+// The prefix of the next DCell1 of a hall: place i holds a(i) for i from 2 to k, so that it is the tuple of the DCell1's first server.
+#[tactic(auto, using(crate::proofs::Asks::plan_good))]
+pub fn next_prefix(h: Hall) -> Result<[u32; PLACES], Refusal>
+    ensures { prefix_stated result ≡ next_prefix h }
 {
-    let number = refused(h);
-    if number != 0 {
-        return Prefix {
-            refusal: number,
-            entries: [0u32; PLACES],
-        };
-    }
-    Prefix {
-        refusal: 0,
-        entries: prefix_up_to(h.n, h.k - 1, h.count),
-    }
+    refused(h)?;
+    Ok(prefix_up_to(h.n, h.k - 1, h.count))
 }
 
 // How many are fitted before number i of sub-cell q.
@@ -126,13 +109,11 @@ fn rank_of(n: u32, m: u32, uid: u32) -> u32
     let mut cell = uid / s;
     let mut r: u32 = 1;
     let mut c: u32 = 0;
-    let mut j: u32 = 0;
-    while j < m {
+    for _j in 0..m {
         c = before_of(g, r, cell % (s + 1), c);
         cell = cell / (s + 1);
         r = (s + 1) * r;
         s = (s + 1) * s;
-        j += 1;
     }
     c
 }
@@ -187,16 +168,6 @@ pub fn is_fitted(h: Hall, uid: u32) -> bool
     ranks_below(h, uid)
 }
 
-// 1 where a test holds, else 0.
-fn one_if(test: bool) -> u32
-    ensures { result ≡ pick test 1 0 }
-{
-    if test {
-        return 1;
-    }
-    0
-}
-
 // How many of `most` DCell1s, from uid `first` on, are fitted.
 fn fitted_racks(h: Hall, first: u32, most: u32) -> u32
     requires { Racks h first most }
@@ -204,10 +175,8 @@ fn fitted_racks(h: Hall, first: u32, most: u32) -> u32
 {
     let size = (h.n + 1) * h.n;
     let mut racks: u32 = 0;
-    let mut q: u32 = 0;
-    while q < most {
-        racks = racks + one_if(is_fitted(h, first + q * size));
-        q += 1;
+    for q in 0..most {
+        racks += u32::from(is_fitted(h, first + q * size));
     }
     racks
 }

@@ -1,9 +1,8 @@
 -- `plan::fitted_racks` meets its contract: after q turns it has counted the first q DCell1s.
 use mathlib.Core.Path.{◌≡◌, refl}
-use mathlib.Core.Bool.{Bool, true, false}
-use Rattle.combine.specs.Tests.{pick}
-use Prim.Native.Nat.{ℕ, ◌+◌, ◌*◌, ◌≤◌, ◌<◌}
+use Prim.Native.Nat.{◌+◌, ◌*◌, ◌<◌}
 use native.Mathlib.Omega.{arith}
+use borrow.Author.Rules.{rules}
 use Rattle.hall.specs.Halls.{largest}
 use Rattle.hall.proofs.Growth.{valid_known}
 use Rattle.plan.specs.Answers.{front}
@@ -19,11 +18,6 @@ place c =
     let a = c.args in
     rw (one_is a.h.n) (rack_fits a.h a.first a.most c.loop-q.q c.requires (omega arith))
 
--- at most one is added
-one : (b : Bool) (d : ℕ) → d ≡ pick b 1 0 → d ≤ 1
-one true d e = omega arith
-one false d e = omega arith
-
 pub overflow_add-size : goal.overflow_add-size
 overflow_add-size c = let k = valid_known _ c.requires.sound in omega (arith, k.n_high)
 
@@ -32,7 +26,7 @@ overflow_mul-size c = let k = valid_known _ c.requires.sound in omega (arith, on
 
 pub loop-q-init : goal.loop-q-init
 unfolding front
-loop-q-init c = (omega arith, omega arith, refl)
+loop-q-init c = (omega arith, refl)
 
 pub overflow_mul-q : goal.overflow_mul-q
 overflow_mul-q c = omega (arith, place (goal.at.overflow_mul-q c).In-loop-q)
@@ -40,17 +34,11 @@ overflow_mul-q c = omega (arith, place (goal.at.overflow_mul-q c).In-loop-q)
 pub overflow_add-first : goal.overflow_add-first
 overflow_add-first c = omega (arith, place (goal.at.overflow_add-first c).In-loop-q)
 
-pub overflow_add-racks : goal.overflow_add-racks
-overflow_add-racks c = omega (arith, one c.is_fitted.result c.one_if-racks.result c.one_if-racks.ensures)
-
 pub loop-q-preserved : goal.loop-q-preserved
 loop-q-preserved c =
     let a = c.args in
-    let l = c.loop-q in (
-      omega arith,
-      omega (arith, one c.is_fitted.result c.one_if-racks.result c.one_if-racks.ensures),
-      rack_counts a.h a.first a.most l.q c.requires (omega arith) c.is_fitted.result l.racks c.one_if-racks.result _ (one_is a.h.n) c.is_fitted.ensures c.one_if-racks.ensures l.invariant.2,
-    )
+    let l = c.loop-q in
+    (search rules, rack_counts a.h a.first a.most l.q c.requires (omega arith) _ l.racks _ _ (one_is a.h.n) c.is_fitted.ensures c.from-racks.ensures l.invariant.1)
 
 pub returns : goal.returns
-returns c = let l = c.loop-q in let e : l.q ≡ c.args.most = omega arith in rw (← e) l.invariant.2
+returns c = let l = c.loop-q in let e : l.q ≡ c.args.most = omega arith in rw (← e) l.invariant.1

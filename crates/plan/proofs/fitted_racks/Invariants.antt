@@ -1,11 +1,8 @@
 -- `plan::fitted_racks` meets its contract: after q turns it has counted the first q DCell1s.
 use mathlib.Core.Path.{◌≡◌}
-use Prim.Native.Nat.{◌-◌, ◌≤◌}
+use Prim.Native.Nat.{◌≤◌}
 use Rattle.plan.specs.Answers.{front}
 use Rattle.plan.proofs.fitted_racks.Given as goal
 
 abbrev pub invariant-loop-q : goal.invariant-loop-q
-invariant-loop-q l = (l.q ≤ l.most) × (l.racks ≤ l.q) × (l.racks ≡ front l.h l.first l.q)
-
-abbrev pub decreases-loop-q : goal.decreases-loop-q
-decreases-loop-q l = l.most - l.q
+invariant-loop-q l = (l.racks ≤ l.q) × (l.racks ≡ front l.h l.first l.q)

@@ -46,48 +46,47 @@ turn n m j g r low s l z eg er =
     rw (eg, racks_at n m j r low s l er) (f.r_pos, omega (arith, f.g_fits))
 
 pub overflow_add-g : goal.overflow_add-g
-overflow_add-g c = omega (arith, c.requires.1.n_high)
+overflow_add-g c = omega (arith, c.requires.sized.n_high)
 
 pub overflow_mul-g : goal.overflow_mul-g
-overflow_mul-g c = omega (arith, one_fits c.args.n c.requires.1.n_high)
+overflow_mul-g c = omega (arith, one_fits c.args.n c.requires.sized.n_high)
 
 pub overflow_add-g-2 : goal.overflow_add-g-2
-overflow_add-g-2 c = omega (arith, one_fits c.args.n c.requires.1.n_high)
+overflow_add-g-2 c = omega (arith, one_fits c.args.n c.requires.sized.n_high)
 
 pub loop-j-init : goal.loop-j-init
-loop-j-init c = record { turns = omega arith; four = refl; whole = refl }
+loop-j-init c = record { four = refl; whole = refl }
 
 pub overflow_add-at : goal.overflow_add-at
-overflow_add-at c = omega (arith, c.loop-j.invariant.turns, c.requires.1.k_high)
+overflow_add-at c = omega (arith, c.requires.sized.k_high)
 
 pub overflow_cast-at : goal.overflow_cast-at
-overflow_cast-at c = omega (arith, c.loop-j.invariant.turns, c.requires.1.k_high)
+overflow_cast-at c = omega (arith, c.requires.sized.k_high)
 
 pub sub_cell-requires : goal.sub_cell-requires
 sub_cell-requires c =
     let a = c.args in
     let l = c.loop-j in
-    turn a.n a.m l.j _ _ c.requires.0 c.requires.1 l.invariant.turns (omega arith) (ap (λ (v : ℕ). v + 1) (one_is a.n)) c.racks_of-r.ensures
+    turn a.n a.m l.j _ _ c.requires.low c.requires.sized (omega arith) (omega arith) (ap (λ (v : ℕ). v + 1) (one_is a.n)) c.racks_of-r.ensures
 
 pub offset_bounds-entries-at : goal.offset_bounds-entries-at
-offset_bounds-entries-at c = omega (arith, c.loop-j.invariant.turns, c.requires.1.k_high)
+offset_bounds-entries-at c = omega (arith, c.requires.sized.k_high)
 
 pub bounds-entries-at : goal.bounds-entries-at
-bounds-entries-at c = let v = c.loop-j.invariant in omega (arith, v.turns, v.four, c.requires.1.k_high)
+bounds-entries-at c = let v = c.loop-j.invariant in omega (arith, v.four, c.requires.sized.k_high)
 
 pub sub_count-d-requires : goal.sub_count-d-requires
 sub_count-d-requires c =
     let a = c.args in
     let l = c.loop-j in
-    turn a.n a.m l.j _ _ c.requires.0 c.requires.1 l.invariant.turns (omega arith) (ap (λ (v : ℕ). v + 1) (one_is a.n)) c.racks_of-r.ensures
+    turn a.n a.m l.j _ _ c.requires.low c.requires.sized (omega arith) (omega arith) (ap (λ (v : ℕ). v + 1) (one_is a.n)) c.racks_of-r.ensures
 
 pub loop-j-preserved : goal.loop-j-preserved
 loop-j-preserved c =
     let a = c.args in
     let l = c.loop-j in
-    let e = down a.n l.j l.d _ _ _ _ l.entries (omega arith) (ap (λ (v : ℕ). v + 1) (one_is a.n)) (racks_at a.n a.m l.j _ c.requires.0 c.requires.1 l.invariant.turns c.racks_of-r.ensures) c.sub_cell.ensures c.sub_count-d.ensures in
+    let e = down a.n l.j l.d _ _ _ _ l.entries (omega arith) (ap (λ (v : ℕ). v + 1) (one_is a.n)) (racks_at a.n a.m l.j _ c.requires.low c.requires.sized (omega arith) c.racks_of-r.ensures) c.sub_cell.ensures c.sub_count-d.ensures in
     record {
-      turns = omega (arith, l.invariant.turns);
       four = length-set l.entries (l.j + 1) c.sub_cell.result ∙ l.invariant.four;
       whole = e ∙ l.invariant.whole;
     }
@@ -96,4 +95,4 @@ pub returns : goal.returns
 returns c =
     let a = c.args in
     let l = c.loop-j in
-    ended a.n a.m a.c l.d l.j l.entries c.requires.1.k_high (omega arith) l.invariant.whole
+    ended a.n a.m a.c l.d l.j l.entries c.requires.sized.k_high (omega arith) l.invariant.whole

@@ -18,10 +18,9 @@ module _ (n m u g s left r c j : ℕ) (v : Made n m u g s left r c j) where
   made_sub : left % (s + 1) ≡ sub n (suc j) u
   made_sub = rw (v.at, v.size) (cell_sub n (suc j) u)
 
-  again : (d : ℕ) → d ≡ before g r (left % (s + 1)) c → j < m → Made n m u g ((s + 1) * s) (left / (s + 1)) ((s + 1) * r) d (j + 1)
+  again : (d : ℕ) → d ≡ before g r (left % (s + 1)) c → Made n m u g ((s + 1) * s) (left / (s + 1)) ((s + 1) * r) d (j + 1)
   unfolding t rank prefix_of racks
-  again d e l = rw (add-one j) (record {
-    turns = l;
+  again d e = rw (add-one j) (record {
     first = v.first;
     size = rw v.size;
     at = rw (v.at, v.size) (cell_up n (suc j) u);
@@ -31,7 +30,7 @@ module _ (n m u g s left r c j : ℕ) (v : Made n m u g s left r c j) where
 
 begin : (n m u g s : ℕ) → g ≡ (n + 1) * n + 1 → s ≡ (n + 1) * n → Made n m u g s (u / s) 1 0 0
 unfolding t cell racks rank
-begin n m u g s e f = record { turns = omega arith; first = e; size = f; at = rw f; racked = refl; ranked = refl }
+begin n m u g s e f = record { first = e; size = f; at = rw f; racked = refl; ranked = refl }
 
 -- the numbers of one more turn
 record Turn (g s left r c : ℕ) : Type 0 where
@@ -52,7 +51,7 @@ at_turn : (c : In-loop-j) → Turn ((c.args.n + 1) * c.args.n + 1) c.loop-j.s c.
 at_turn c =
     let a = c.args in
     let l = c.loop-j in
-    turn a.n a.m a.uid _ l.s l.cell l.r l.c l.j c.requires.0 c.requires.1 l.invariant (omega arith)
+    turn a.n a.m a.uid _ l.s l.cell l.r l.c l._j c.requires.0 c.requires.1 l.invariant (omega arith)
 
 pub overflow_add-g : goal.overflow_add-g
 overflow_add-g c = omega (arith, c.requires.1.n_high)
@@ -95,17 +94,14 @@ overflow_add-s-in-loop-j-2 c = omega (arith, (at_turn (goal.at.overflow_add-s-in
 pub overflow_mul-s-in-loop-j : goal.overflow_mul-s-in-loop-j
 overflow_mul-s-in-loop-j c = omega (arith, (at_turn (goal.at.overflow_mul-s-in-loop-j c).In-loop-j).fits.up_fits)
 
-pub loop-j-smaller : goal.loop-j-smaller
-loop-j-smaller c = omega (arith, c.loop-j.invariant.turns)
-
 pub loop-j-preserved : goal.loop-j-preserved
 loop-j-preserved c =
     let a = c.args in
     let l = c.loop-j in
-    again a.n a.m a.uid _ l.s l.cell l.r l.c l.j l.invariant c.before_of-c.result c.before_of-c.ensures (omega arith)
+    again a.n a.m a.uid _ l.s l.cell l.r l.c l._j l.invariant c.before_of-c.result c.before_of-c.ensures
 
 pub returns : goal.returns
 returns c =
     let l = c.loop-j in
-    let e : l.j ≡ c.args.m = omega (arith, l.invariant.turns) in
+    let e : l._j ≡ c.args.m = omega arith in
     rw (← e) l.invariant.ranked
