@@ -1,7 +1,7 @@
 -- Laws of parts: the run of a hall table for a DCell lies within the table, and its byte for a place is the hall table's for the server
 -- there; so a link inside the DCell is usable by the run where it is by the hall table.
 use mathlib.Core.Path.{◌≡◌, refl, sym, ◌∙◌, ap}
-use mathlib.Core.Bool.{true, false}
+use mathlib.Core.Bool.{true, false, true≢false}
 use mathlib.Core.List.{List, [], ◌∷◌}
 use Prim.Native.Nat.{ℕ, zero, suc, ◌+◌, ◌-◌, ◌*◌, ◌/◌, ◌≤◌, ◌<◌}
 use native.Mathlib.Nat.{div-lt_iff_lt-mul, mul-le-mul_right, mul-le-mul}
@@ -9,17 +9,20 @@ use native.Mathlib.Omega.{arith}
 use lib.Dec.{eqb, ltb, leb}
 use lib.ListN.{length, take, drop}
 use borrow.Author.Tests.{eqb-true, eq-eqb, ne_eqb, leb-true, leb-false, ltb-true, lt-ltb, le-ltb}
+use Rattle.std.specs.Prelude.{Result, Ok, Err, is_err}
 use Rattle.combine.specs.Tests.{pick}
 use Rattle.combine.proofs.Tests.{cases}
 use Rattle.hall.specs.declared.Hall.{Hall}
 use Rattle.hall.specs.Cells.{t, cell}
 use Rattle.hall.specs.Halls.{places, valid, servers, asks_hall, asks_uid}
-use Rattle.hall.specs.Refusals.{refusal, in_order, bad_hall, bad_length, bad_uid, bad_code}
+use Rattle.hall.specs.declared.refusals.Refusal.{Refusal}
+use Rattle.hall.specs.Refusals.{refusal, refusal_in, in_order, bad_hall, bad_length, bad_uid, bad_code}
+use Rattle.hall.specs.Answers.{size_of}
+use Rattle.hall.proofs.Stated.{number_not_zero}
 use Rattle.hall.proofs.Asks.{refusal_in_order, unrefused_hold}
-use Rattle.hall.proofs.Growth.{valid_known, valid_pos, valid_size, valid_servers, some_servers}
+use Rattle.hall.proofs.Growth.{valid_known, valid_pos, valid_size, valid_servers, some_servers, size_of_lem}
 use Rattle.ports.specs.Codes.{largest_table, all_known, first_unknown, table_length, cell_length, run, part}
-use Rattle.ports.specs.Answers.{asks_table, check_of, part_refusal, part_of}
-use Rattle.ports.specs.declared.TableCheck.{TableCheck}
+use Rattle.ports.specs.Answers.{CheckAnswer, asks_table, check_of, part_refusal, part_of}
 use Rattle.ports.proofs.Tables.{all_known_lem, some_unknown}
 
 -- a product of two 32-bit numbers, the second by one more, leaves room for a third below 2 ^ 64
@@ -90,6 +93,15 @@ table_fits h v =
     let b : h.k + 1 ≤ places = omega arith in
     omega (arith, mul-le-mul a b)
 
+-- the number that an answer tells is 0 where nothing is refused, and there alone
+refused_told : (r : Result (Unit {0}) Refusal) → true ≡ is_err r → refusal_in r ≡ 0 → ⊥
+refused_told (Ok u) e z = true≢false e
+refused_told (Err a) e z = number_not_zero a z
+
+taken_told : (r : Result (Unit {0}) Refusal) → false ≡ is_err r → refusal_in r ≡ 0
+taken_told (Ok u) e = refl
+taken_told (Err a) e = absurd (true≢false (sym e))
+
 -- the four answers of the table check
 module _ (h : Hall) (table : List ℕ) where
   check_asks : refusal (asks_hall h ∷ asks_table h table ∷ (bad_code, all_known table) ∷ [])
@@ -97,20 +109,20 @@ module _ (h : Hall) (table : List ℕ) where
   unfolding in_order
   check_asks = refusal_in_order (asks_hall h ∷ asks_table h table ∷ (bad_code, all_known table) ∷ []) refl
 
-  pub check_hall : valid h ≡ false → ◌≡◌ {A = TableCheck} (record { refusal = 1; place = 0 }) (check_of h table)
+  pub check_hall : valid h ≡ false → ◌≡◌ {A = CheckAnswer} (record { refusal = 1; place = 0 }) (check_of h table)
   check_hall v = rw (check_asks, v)
 
-  pub check_length : valid h ≡ true → (length table ≡ table_length h → ⊥) → ◌≡◌ {A = TableCheck} (record { refusal = 4; place = 0 }) (check_of h table)
+  pub check_length : valid h ≡ true → (length table ≡ table_length h → ⊥) → ◌≡◌ {A = CheckAnswer} (record { refusal = 4; place = 0 }) (check_of h table)
   check_length v l = rw (check_asks, v, ne_eqb (length table) (table_length h) l)
 
   pub check_code : valid h ≡ true → length table ≡ table_length h → (i : ℕ) → i ≡ first_unknown table → i < length table
-      → ◌≡◌ {A = TableCheck} (record { refusal = 5; place = i }) (check_of h table)
+      → ◌≡◌ {A = CheckAnswer} (record { refusal = 5; place = i }) (check_of h table)
   check_code v l i e b =
       let f = some_unknown table (rw e at b) in
       rw (check_asks, v, eq-eqb (length table) (table_length h) l, f, e)
 
   pub check_good : valid h ≡ true → length table ≡ table_length h → (i : ℕ) → i ≡ first_unknown table → length table ≤ i
-      → ◌≡◌ {A = TableCheck} (record { refusal = 0; place = 0 }) (check_of h table)
+      → ◌≡◌ {A = CheckAnswer} (record { refusal = 0; place = 0 }) (check_of h table)
   check_good v l i e b =
       let f = all_known_lem table (rw e at b) in
       rw (check_asks, v, eq-eqb (length table) (table_length h) l, f)
@@ -134,20 +146,27 @@ module _ (h : Hall) (table : List ℕ) where
     part_good v l b = rw (part_asks, v, eq-eqb (length table) (table_length h) l, lt-ltb u (servers h) b)
 
     -- a part that is refused is empty
-    pub part_empty : (r : ℕ) → r ≡ part_refusal h table u → (r ≡ 0 → ⊥) → [] ≡ part_of h table u
-    part_empty r e ne = rw (← e, ne_eqb r 0 ne)
+    module _ (r : Result (Unit {0}) Refusal) (e : refusal_in r ≡ part_refusal h table u) where
+      pub part_empty : true ≡ is_err r → [] ≡ part_of h table u
+      part_empty z = rw (← e, ne_eqb (refusal_in r) 0 (refused_told r z))
 
-    -- one that is not is the run for the DCell(b), between two places of the table
-    module _ (r count bytes : ℕ) (e : r ≡ part_refusal h table u) (z : r ≡ 0) (size : count ≡ t h.n h.b) where
-      pub part_sound : Sound h table u
-      part_sound = sound h table u (sym e ∙ z)
+      -- one that is not is the run for the DCell(b), between two places of the table
+      module _ (z : false ≡ is_err r) (count : ℕ) (q : count ≡ size_of h h.b) where
+        part_taken : part_refusal h table u ≡ 0
+        part_taken = sym e ∙ taken_told r z
 
-      pub part_counts : 0 < count
-      part_counts = rw size (valid_pos h (valid_known h part_sound.is_valid) h.b)
+        part_sound : Sound h table u
+        part_sound = sound h table u part_taken
 
-      module _ (wide : bytes ≡ count * (h.k + 1)) where
-        pub part_within : u / count * bytes + bytes ≤ length table
-        part_within = taken_within h table u part_sound count bytes size wide
+        part_size : count ≡ t h.n h.b
+        part_size = let v = part_sound.is_valid in size_of_lem h h.b count v (valid_known h v).b_low q
 
-        pub part_is : take (u / count * bytes + bytes - u / count * bytes) (drop (u / count * bytes) table) ≡ part_of h table u
-        part_is = taken_is h table u part_sound count bytes size wide ∙ rw (← e, z)
+        pub part_counts : 0 < count
+        part_counts = rw part_size (valid_pos h (valid_known h part_sound.is_valid) h.b)
+
+        module _ (bytes : ℕ) (wide : bytes ≡ count * (h.k + 1)) where
+          pub part_within : u / count * bytes + bytes ≤ length table
+          part_within = taken_within h table u part_sound count bytes part_size wide
+
+          pub part_is : take (u / count * bytes + bytes - u / count * bytes) (drop (u / count * bytes) table) ≡ part_of h table u
+          part_is = taken_is h table u part_sound count bytes part_size wide ∙ rw part_taken

@@ -1,15 +1,16 @@
 -- Laws of codes: a port is up exactly when its code is 1, what the check finds is the first unknown code, and tables with code 1 at the
 -- same places have the same ports up.
-use mathlib.Core.Path.{◌≡◌, refl, sym, ◌∙◌}
+use mathlib.Core.Path.{◌≡◌, refl, sym, ◌∙◌, ap}
 use mathlib.Core.Bool.{true, false}
-use mathlib.Core.List.{List, [], ◌∷◌}
-use Prim.Native.Nat.{ℕ, zero, suc, ◌+◌, ◌-◌, ◌*◌, ◌≤◌, ◌<◌}
+use mathlib.Core.List.{List, [], ◌∷◌, ◌++◌}
+use Prim.Native.Nat.{ℕ, zero, suc, ◌+◌, ◌-◌, ◌*◌, ◌≤◌, ◌<◌, max}
 use native.Mathlib.Numerals.{add-one}
 use native.Mathlib.Omega.{arith}
 use lib.Dec.{leb}
-use lib.ListN.{length, get_or, take, drop, length-drop, drop_of_length-le}
-use lib.Seq.{drop-cons, drop-drop}
-use borrow.Author.Tests.{eqb-true, eq-eqb, leb-true, le-leb, lt-leb}
+use lib.ListN.{length, get_or, drop, length-drop, length-append, drop_of_length-le}
+use lib.Seq.{drop-cons, drop-drop, drop-append_seam}
+use borrow.Author.Tests.{eqb-true, eq-eqb, leb-true, leb-false, le-leb, lt-leb}
+use Rattle.std.specs.List.{fold}
 use Rattle.combine.specs.Tests.{pick, both}
 use Rattle.combine.proofs.Tests.{cases, both_left, both_right, both_true, both_false, both_alone, both_joined}
 use Rattle.hall.specs.declared.Hall.{Hall}
@@ -34,6 +35,12 @@ pub above_not_up : (h : Hall) (table : List ℕ) (server port : ℕ) → h.k < p
 unfolding up code_of
 above_not_up h table server port l = rw (lt-leb port h.k l)
 
+-- the check looks no further than the table
+pub first_within : (table : List ℕ) → first_unknown table ≤ length table
+unfolding first_unknown
+first_within [] = omega arith
+first_within (code ∷ codes) = cases (known code) (λ e. rw e (omega (arith, first_within codes))) (λ e. rw e (omega arith))
+
 -- the first unknown code of a table, from each place that is reached: a known code is passed, an unknown one is the first
 pub unknown_start : (table : List ℕ) → 0 + first_unknown (drop 0 table) ≡ first_unknown table
 unknown_start table = omega arith
@@ -51,47 +58,55 @@ unfolding first_unknown
 unknown_here table i h e = rw (drop-cons table i 0 h, e) (omega arith)
 
 -- a block of known codes is passed as a whole
-unknown_past : (table : List ℕ) (count : ℕ) → count ≤ length table → all_known (take count table) ≡ true → first_unknown table ≡ count + first_unknown (drop count table)
+unknown_past : (block rest : List ℕ) → all_known block ≡ true → first_unknown (block ++ rest) ≡ length block + first_unknown rest
 unfolding first_unknown all_known
-unknown_past table zero h e = omega arith
-unknown_past [] (suc count) h e = absurd (omega arith)
-unknown_past (code ∷ codes) (suc count) h e =
-    let k = both_left (known code) (all_known (take count codes)) e in
-    let w = unknown_past codes count (omega arith) (both_right (known code) (all_known (take count codes)) e) in
+unknown_past [] rest e = omega arith
+unknown_past (code ∷ codes) rest e =
+    let k = both_left (known code) (all_known codes) e in
+    let w = unknown_past codes rest (both_right (known code) (all_known codes) e) in
     rw k (omega (arith, w))
 
-pub unknown_block : (table : List ℕ) (from to : ℕ) → from ≤ to → to ≤ length table → all_known (take (to - from) (drop from table)) ≡ true
-    → from + first_unknown (drop from table) ≡ to + first_unknown (drop to table)
-unknown_block table from to h l e =
-    let d : from + (to - from) ≡ to = omega arith in
-    let p = unknown_past (drop from table) (to - from) (rw (length-drop from table) (omega arith)) e in
-    let q : first_unknown (drop from table) ≡ to - from + first_unknown (drop to table) = rw (drop-drop (to - from) from table, d) at p in
-    omega (arith, q)
+-- a block, where what stands before it is passed
+module _ (table block rest : List ℕ) (from : ℕ) (left : drop from table ≡ block ++ rest) (first : from + first_unknown (drop from table) ≡ first_unknown table) where
+  pub block_fits : from + length block ≤ length table
+  block_fits =
+      let l : length table - from ≡ length block + length rest = sym (length-drop from table) ∙ ap length left ∙ length-append block rest in
+      omega (arith, first_within table)
+
+  pub block_left : drop (from + length block) table ≡ rest
+  block_left = sym (drop-drop (length block) from table) ∙ ap (drop (length block)) left ∙ drop-append_seam block rest
+
+  pub block_known : all_known block ≡ true → from + length block + first_unknown (drop (from + length block) table) ≡ first_unknown table
+  block_known e =
+      let p : first_unknown (drop from table) ≡ length block + first_unknown rest = ap first_unknown left ∙ unknown_past block rest e in
+      rw block_left (omega (arith, p))
 
 -- the higher of two codes is known exactly where both are
 known_below : (a b : ℕ) → a ≤ b → known b ≡ true → known a ≡ true
 unfolding known
 known_below a b h e = le-leb a 4 (omega (arith, leb-true b 4 e))
 
-pub higher_first : (a b : ℕ) → b ≤ a → known a ≡ both (known a) (known b)
-higher_first a b h = cases (known a) (λ e. e ∙ sym (both_true (known a) (known b) e (known_below b a h e))) (λ e. rw e)
+known_higher : (a b : ℕ) → known (max a b) ≡ both (known a) (known b)
+known_higher a b = cases (leb a b)
+    (λ l.
+    let k = leb-true a b l in
+    let m : max a b ≡ b = omega arith in
+    rw m (cases (known b) (λ e. e ∙ sym (both_true (known a) (known b) (known_below a b k e) e)) (λ e. e ∙ sym (both_false (known a) (known b) e))))
+    (λ l.
+    let k = leb-false a b l in
+    let m : max a b ≡ a = omega arith in
+    rw m (cases (known a) (λ e. e ∙ sym (both_true (known a) (known b) e (known_below b a (omega arith) e))) (λ e. rw e)))
 
-pub higher_second : (a b : ℕ) → a ≤ b → known b ≡ both (known a) (known b)
-higher_second a b h = cases (known b) (λ e. e ∙ sym (both_true (known a) (known b) (known_below a b h e) e)) (λ e. e ∙ sym (both_false (known a) (known b) e))
+-- whether all codes are known, by the highest of them and of the codes before
+known_from : (most : ℕ) (codes : List ℕ) → known (fold (λ high code. max high code) most codes) ≡ both (known most) (all_known codes)
+unfolding all_known
+known_from most [] = sym (both_alone (known most))
+known_from most (code ∷ codes) =
+    known_from (max most code) codes ∙ rw (known_higher most code) (sym (both_joined (known most) (known code) (all_known codes)))
 
--- whether all codes are known, from each place that is reached: by the highest so far, and what is left
-pub known_start : (codes : List ℕ) → both (known 0) (all_known (drop 0 codes)) ≡ all_known codes
+pub known_highest : (codes : List ℕ) → known (fold (λ high code. max high code) 0 codes) ≡ all_known codes
 unfolding known
-known_start codes = refl
-
-pub known_next : (codes : List ℕ) (most high i : ℕ) → i < length codes → known high ≡ both (known most) (known (get_or codes i 0))
-    → both (known most) (all_known (drop i codes)) ≡ both (known high) (all_known (drop (i + 1) codes))
-unfolding all_known
-known_next codes most high i h e = rw (add-one i, drop-cons codes i 0 h, e) (both_joined (known most) (known (get_or codes i 0)) (all_known (drop (suc i) codes)))
-
-pub known_end : (codes : List ℕ) (most i : ℕ) → length codes ≤ i → both (known most) (all_known (drop i codes)) ≡ known most
-unfolding all_known
-known_end codes most i h = rw (drop_of_length-le codes h) (both_alone (known most))
+known_highest codes = known_from 0 codes
 
 -- the first unknown code stands below the length exactly where one is unknown
 pub all_known_lem : (table : List ℕ) → length table ≤ first_unknown table → all_known table ≡ true
@@ -130,12 +145,6 @@ pub each_known : (table : List ℕ) → ((i : ℕ) → i < length table → know
 unfolding all_known
 each_known [] h = refl
 each_known (code ∷ codes) h = both_true (known code) (all_known codes) (h 0 (omega arith)) (each_known codes (λ i l. h (suc i) (omega arith)))
-
--- the check looks no further than the table
-pub first_within : (table : List ℕ) → first_unknown table ≤ length table
-unfolding first_unknown
-first_within [] = omega arith
-first_within (code ∷ codes) = cases (known code) (λ e. rw e (omega (arith, first_within codes))) (λ e. rw e (omega arith))
 
 -- the code that the check tells is unknown, and each before it is known
 pub first_is_unknown : (table : List ℕ) → first_unknown table < length table → known (get_or table (first_unknown table) 0) ≡ false

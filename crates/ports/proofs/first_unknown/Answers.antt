@@ -1,10 +1,12 @@
 -- `ports::first_unknown` meets its contract: what is passed is known, so the first unknown of what is left is the table's.
-use mathlib.Core.Path.{sym, ◌∙◌}
-use Rattle.ports.proofs.Tables.{unknown_next, unknown_here, unknown_end}
+use mathlib.Core.Path.{◌≡◌, sym, ◌∙◌}
+use native.Mathlib.Omega.{arith}
+use lib.ListN.{length}
+use Rattle.ports.proofs.Tables.{first_within, unknown_next, unknown_here, unknown_end}
 use Rattle.ports.proofs.first_unknown.Goals as goal
 
 pub loop-i-init : goal.loop-i-init
-loop-i-init c = c.known_blocks-i.ensures
+loop-i-init c = c.known_blocks-from.ensures
 
 pub returns-then-not-is_known : goal.returns-then-not-is_known
 returns-then-not-is_known c =
@@ -17,4 +19,7 @@ loop-i-preserved c =
     sym (unknown_next _ _ c.loop-i-test.true (sym k.ensures ∙ c.if-not-is_known.false)) ∙ c.loop-i.invariant
 
 pub returns : goal.returns
-returns c = sym (unknown_end _ _ c.loop-i-test.false) ∙ c.loop-i.invariant
+returns c =
+    let w = c.loop-i in
+    let e : w.i ≡ length c.args.table.now = omega (arith, first_within c.args.table.now, c.known_blocks-from.ensures) in
+    sym e ∙ sym (unknown_end _ _ c.loop-i-test.false) ∙ w.invariant

@@ -1,12 +1,16 @@
 -- `ports::known_blocks` meets its contract: a block that is passed has known codes alone, so the first unknown of what is left is the table's.
 use mathlib.Core.Path.{◌≡◌}
-use Prim.Native.Nat.{◌+◌, ◌-◌}
-use lib.ListN.{length, drop}
+use mathlib.Core.List.{List}
+use Prim.Native.Nat.{ℕ, ◌+◌}
+use lib.ListN.{drop}
+use Rattle.std.specs.Slice.Iter.{chunks_rest}
 use Rattle.ports.specs.Codes.{first_unknown}
 use Rattle.ports.proofs.known_blocks.Given as goal
 
-abbrev pub invariant-loop-from : goal.invariant-loop-from
-invariant-loop-from l = l.from + first_unknown (drop l.from l.table) ≡ first_unknown l.table
+-- what the blocks before a place of the table have left
+pub record Passed (table left : List ℕ) (from : ℕ) : Type 0 where
+  pub left_is : drop from table ≡ left
+  pub first : from + first_unknown (drop from table) ≡ first_unknown table
 
-abbrev pub decreases-loop-from : goal.decreases-loop-from
-decreases-loop-from l = length l.table - l.from
+abbrev pub invariant-loop-block : goal.invariant-loop-block
+invariant-loop-block l = Passed l.table (chunks_rest l.block-iterator) l.from
