@@ -4,12 +4,12 @@ use mathlib.Core.List.{List, [], ◌∷◌}
 use Prim.Native.Nat.{ℕ, ◌-◌, ◌<◌}
 use native.Mathlib.Omega.{arith}
 use lib.ListN.{get_or}
-use Rattle.std.specs.Prelude.{Result, Ok, Err, MatchResult, IsOkAnd, IsErr, IsErrAnd, is_err, true, false}
+use Rattle.std.specs.Prelude.{Result, Ok, Err, IsErr, IsErrAnd, is_err, true, false}
 use Rattle.combine.proofs.Tests.{never}
 use borrow.Author.Tests.{eq-eqb, ne_eqb}
 use Rattle.hall.specs.declared.refusals.Refusal.{Refusal}
 use Rattle.hall.specs.declared.refusals.Refusal.TheVariants.{BadHall, BadUid, BadRange, BadLength, BadCode, ShortRoom, ShortFrame, BadRetry, BadChecksum, BadSheet, BadAddress, HallFull, BadVersion, BadDhl, BadFlags, BadPf}
-use Rattle.hall.specs.Rooms.{Answer, told, written, outcome}
+use Rattle.hall.specs.Rooms.{told, written}
 use Rattle.hall.proofs.Told.{told_refused, written_refused}
 use Rattle.hall.specs.Refusals.{number_of, answered, refusal_in, stated}
 
@@ -117,26 +117,3 @@ module _ {A T : Type 0} (good : A → T) (refused : ℕ → T) (number : T → �
   stated_one (Ok a) (Err r) e = absurd (apart a r e)
   stated_one (Err r) (Ok b) e = absurd (apart b r (sym e))
   stated_one (Err r) (Err s) e = ap Err (number_one r s (sym (numbered (number_of r)) ∙ ap number e ∙ numbered (number_of s)))
-
--- what a closure makes of an answer's values, and its refusal as it was
-abbrev pub Mapped : {A B : Type 0} → (A → List B) → Result A Refusal → Result (List B) Refusal → Type 0
-Mapped values x y = MatchResult x (λ a. IsOkAnd y (λ b. b ≡ values a)) (λ e. y ≡ Err e)
-
--- the values are told as what is stated for the answer, where those are the same
-module _ {A B T : Type 0} (good : A → T) (refused : ℕ → T) (of : T → Answer B) (values : A → List B) (accepted : (a : A) → of (good a) ≡ (0, values a)) (numbered : (n : ℕ) → (of (refused n)).0 ≡ n) (room : List B) where
-  refused_number : (r : Refusal) → (of (refused (number_of r))).0 ≡ 0 → ⊥
-  refused_number r z = number_not_zero r (sym (numbered (number_of r)) ∙ z)
-
-  pub told_stated : (x : Result A Refusal) (y : Result (List B) Refusal) → Mapped values x y → told (outcome y) room ≡ told (of (stated good refused x)) room
-  told_stated (Ok a) (Ok b) m = rw (m, accepted a)
-  told_stated (Ok a) (Err r) m = absurd m
-  told_stated (Err r) y m =
-      let o = of (refused (number_of r)) in
-      ap (λ z. told (outcome z) room) m ∙ sym (refusal_told r [] room) ∙ sym (numbered (number_of r)) ∙ sym (told_refused o.0 o.1 room (refused_number r))
-
-  pub written_stated : (x : Result A Refusal) (y : Result (List B) Refusal) → Mapped values x y → written (outcome y) room ≡ written (of (stated good refused x)) room
-  written_stated (Ok a) (Ok b) m = rw (m, accepted a)
-  written_stated (Ok a) (Err r) m = absurd m
-  written_stated (Err r) y m =
-      let o = of (refused (number_of r)) in
-      ap (λ z. written (outcome z) room) m ∙ sym (refusal_unwritten r [] room) ∙ written_refused o.0 o.1 room (refused_number r)

@@ -1,9 +1,8 @@
 -- An answer told through lent room: the refusal is returned, and the answer's words stand at the room's start where nothing is refused.
 -- Section "Refusal numbers".
-use Rattle.std.specs.Prelude.{List, [], ◌++◌, ℕ, eqb, ltb, length, drop, Result, Ok, Err}
+use Rattle.std.specs.Prelude.{List, ◌++◌, ℕ, eqb, ltb, length, drop}
 use Rattle.combine.specs.Tests.{pick}
-use Rattle.hall.specs.declared.refusals.Refusal.{Refusal}
-use Rattle.hall.specs.Refusals.{short_room, number_of}
+use Rattle.hall.specs.Refusals.{short_room}
 
 -- an answer: its refusal's number, and its other values in order
 abbrev pub Answer : Type 0 → Type 0
@@ -20,8 +19,3 @@ told o room = pick (eqb o.0 0) (pick (ltb (length room) (length o.1)) short_room
 -- the room afterwards: the values at its start and the rest unchanged, or all as lent
 unfoldable pub written : {A : Type 0} → Answer A → List A → List A
 written o room = pick (eqb (told o room) 0) (o.1 ++ drop (length o.1) room) room
-
--- an answer in an array of values: the number 0 and the values, or the refusal's number
-abbrev pub outcome : {A : Type 0} → Result (List A) Refusal → Answer A
-outcome (Ok values) = (0, values)
-outcome (Err r) = (number_of r, [])

@@ -1,25 +1,14 @@
-// An answer told by its refusal's number and by its values in lent room.
+// An answer's values told in lent room.
 
 #![tactic(auto)]
 
 ghost use Rattle.std.specs.Prelude.{◌≡◌};
-ghost use Rattle.hall.specs.Rooms.{told, written, outcome};
+ghost use Rattle.hall.specs.Rooms.{told, written};
 
 use hall::refusals::Refusal;
 
-// An answer: its refusal's number, or its values in the room and 0.
-pub fn tell<T: Copy, const N: usize>(answer: Result<[T; N], Refusal>, room: &mut [T]) -> u32
-    ensures number { result ≡ told (outcome answer) room.old }
-    ensures room { room.new ≡ written (outcome answer) room.old }
-{
-    match answer {
-        Ok(values) => tell_all(&values, room),
-        Err(refusal) => refusal.number(),
-    }
-}
-
-// As many values as there are, where nothing is refused.
-pub fn tell_all<T: Copy>(values: &[T], room: &mut [T]) -> u32
+// The values of an answer that is not refused, at the start of the room, and 0; or the number of a short room, and the room as lent.
+pub fn tell<T: Copy>(values: &[T], room: &mut [T]) -> u32
     ensures number { result ≡ told (0, values.now) room.old }
     ensures room { room.new ≡ written (0, values.now) room.old }
 {
