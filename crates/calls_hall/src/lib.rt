@@ -12,15 +12,16 @@ ghost use Rattle.hall.specs.Halls.{hall_of};
 ghost use Rattle.calls_hall.specs.Outcomes.{of_sizes, of_uid, of_tuple, of_cell, of_neighbour, of_link, of_route, of_part};
 
 use hall::Hall;
-use rooms::{tell, tell_bytes};
+use rooms::tell;
 
 pub fn calls_sizes(n: u32, k: u32, b: u32, count: u32, room: &mut [u32]) -> u32
     ensures number { result ≡ told (of_sizes (sizes_of (hall_of n k b count))) room.old }
     ensures room { room.new ≡ written (of_sizes (sizes_of (hall_of n k b count))) room.old }
 {
-    let a = hall::sizes_of(Hall { n, k, b, count });
-    let words = a.t;
-    tell(a.refusal, &words, room)
+    match hall::sizes_of(Hall { n, k, b, count }) {
+        Ok(sizes) => tell(&sizes, room),
+        Err(refusal) => refusal.number(),
+    }
 }
 
 pub fn calls_size_of(n: u32, k: u32, b: u32, count: u32, level: u32) -> u32
@@ -43,27 +44,30 @@ pub fn calls_uid(
     ensures number { result ≡ told (of_uid (uid_of (hall_of n k b count) (a0 ∷ a1 ∷ a2 ∷ a3 ∷ []))) room.old }
     ensures room { room.new ≡ written (of_uid (uid_of (hall_of n k b count) (a0 ∷ a1 ∷ a2 ∷ a3 ∷ []))) room.old }
 {
-    let a = cells::uid_of(Hall { n, k, b, count }, [a0, a1, a2, a3]);
-    let words = [a.uid];
-    tell(a.refusal, &words, room)
+    match cells::uid_of(Hall { n, k, b, count }, [a0, a1, a2, a3]) {
+        Ok(uid) => tell(&[uid], room),
+        Err(refusal) => refusal.number(),
+    }
 }
 
 pub fn calls_tuple(n: u32, k: u32, b: u32, count: u32, uid: u32, room: &mut [u32]) -> u32
     ensures number { result ≡ told (of_tuple (tuple_of (hall_of n k b count) uid)) room.old }
     ensures room { room.new ≡ written (of_tuple (tuple_of (hall_of n k b count) uid)) room.old }
 {
-    let a = cells::tuple_of(Hall { n, k, b, count }, uid);
-    let words = a.entries;
-    tell(a.refusal, &words, room)
+    match cells::tuple_of(Hall { n, k, b, count }, uid) {
+        Ok(entries) => tell(&entries, room),
+        Err(refusal) => refusal.number(),
+    }
 }
 
 pub fn calls_cell(n: u32, k: u32, b: u32, count: u32, uid: u32, level: u32, room: &mut [u32]) -> u32
     ensures number { result ≡ told (of_cell (cell_around (hall_of n k b count) uid level)) room.old }
     ensures room { room.new ≡ written (of_cell (cell_around (hall_of n k b count) uid level)) room.old }
 {
-    let a = cells::cell_around(Hall { n, k, b, count }, uid, level);
-    let words = [a.first, a.count];
-    tell(a.refusal, &words, room)
+    match cells::cell_around(Hall { n, k, b, count }, uid, level) {
+        Ok(cell) => tell(&[cell.first, cell.count], room),
+        Err(refusal) => refusal.number(),
+    }
 }
 
 pub fn calls_neighbour(
@@ -78,9 +82,10 @@ pub fn calls_neighbour(
     ensures number { result ≡ told (of_neighbour (neighbour_of (hall_of n k b count) uid level)) room.old }
     ensures room { room.new ≡ written (of_neighbour (neighbour_of (hall_of n k b count) uid level)) room.old }
 {
-    let a = cells::neighbour_of(Hall { n, k, b, count }, uid, level);
-    let words = [a.uid];
-    tell(a.refusal, &words, room)
+    match cells::neighbour_of(Hall { n, k, b, count }, uid, level) {
+        Ok(neighbour) => tell(&[neighbour], room),
+        Err(refusal) => refusal.number(),
+    }
 }
 
 pub fn calls_link(
@@ -97,15 +102,19 @@ pub fn calls_link(
     ensures number { result ≡ told (of_link (link_between (hall_of n k b count) uid level p q)) room.old }
     ensures room { room.new ≡ written (of_link (link_between (hall_of n k b count) uid level p q)) room.old }
 {
-    let a = cells::link_between(Hall { n, k, b, count }, uid, level, p, q);
-    let words = [a.from, a.to];
-    tell(a.refusal, &words, room)
+    match cells::link_between(Hall { n, k, b, count }, uid, level, p, q) {
+        Ok(link) => tell(&[link.from, link.to], room),
+        Err(refusal) => refusal.number(),
+    }
 }
 
 pub fn calls_check(n: u32, k: u32, b: u32, count: u32, table: &[u8]) -> u32
     ensures { result ≡ (check_of (hall_of n k b count) table.now).refusal }
 {
-    ports::check_table(Hall { n, k, b, count }, table).refusal
+    match ports::check_table(Hall { n, k, b, count }, table) {
+        Ok(()) => 0,
+        Err(fault) => fault.refusal.number(),
+    }
 }
 
 pub fn calls_part(
@@ -120,16 +129,18 @@ pub fn calls_part(
     ensures number { result ≡ told (of_part (hall_of n k b count) table.now uid) room.old }
     ensures room { room.new ≡ written (of_part (hall_of n k b count) table.now uid) room.old }
 {
-    let number = ports::part_refusal(Hall { n, k, b, count }, table, uid);
-    let part = ports::part_of(Hall { n, k, b, count }, table, uid);
-    tell_bytes(number, part, room)
+    match ports::part_refusal(Hall { n, k, b, count }, table, uid) {
+        Ok(()) => tell(ports::part_of(Hall { n, k, b, count }, table, uid), room),
+        Err(refusal) => refusal.number(),
+    }
 }
 
 pub fn calls_route(n: u32, k: u32, b: u32, count: u32, x: u32, y: u32, room: &mut [u32]) -> u32
     ensures number { result ≡ told (of_route (route_between (hall_of n k b count) x y)) room.old }
     ensures room { room.new ≡ written (of_route (route_between (hall_of n k b count) x y)) room.old }
 {
-    let a = route::route_between(Hall { n, k, b, count }, x, y);
-    let words = a.uids;
-    tell(a.refusal, &words, room)
+    match route::route_between(Hall { n, k, b, count }, x, y) {
+        Ok(route) => tell(&route.uids, room),
+        Err(refusal) => refusal.number(),
+    }
 }
