@@ -64,12 +64,9 @@ fn put_level(h: Hall, table: &[u8], uid: u32, level: u32, room: &mut [u8], at: u
     let far = cells::neighbour_of(h, first, level).uid;
     let inside = first % size;
     let sub = first / size % (size + 1);
-    let mut next = at;
-    let mut p: u32 = 0;
-    while p < count {
-        room[next] = code_at(h, table, far_behind(far, size, inside, sub, p), level);
-        next += step;
-        p += 1;
+    for p in 0..count {
+        let place = at + (p as usize) * step;
+        room[place] = code_at(h, table, far_behind(far, size, inside, sub, p), level);
     }
 }
 
@@ -79,10 +76,8 @@ fn put_far(h: Hall, table: &[u8], uid: u32, room: &mut [u8], at: usize)
     ensures { room.new ≡ put room.old at (up_to (far_at h table.now uid) (far_count h)) }
 {
     let all = h.k - h.b;
-    let mut d: u32 = 0;
-    while d < all {
+    for d in 0..all {
         put_level(h, table, uid, h.b + 1 + d, room, at + (d as usize));
-        d += 1;
     }
 }
 
@@ -111,12 +106,9 @@ fn count_port(h: Hall, here: bool, uid: u32, port: u32, room: &mut [u8], at: usi
 {
     let count = hall::size_of(h, h.b);
     let first = uid / count * count;
-    let mut next = at;
-    let mut p: u32 = 0;
-    while p < count {
-        room[next] = code_counted(h, here, first + p, port, room[next]);
-        next += step;
-        p += 1;
+    for p in 0..count {
+        let place = at + (p as usize) * step;
+        room[place] = code_counted(h, here, first + p, port, room[place]);
     }
 }
 
@@ -127,10 +119,8 @@ fn count_run(h: Hall, uid: u32, lowest: u32, ports: u32, room: &mut [u8], at: us
 {
     let here = plan::is_fitted(h, uid);
     let step = ports as usize;
-    let mut d: u32 = 0;
-    while d < ports {
+    for d in 0..ports {
         count_port(h, here, uid, lowest + d, room, at + (d as usize), step);
-        d += 1;
     }
 }
 

@@ -24,9 +24,6 @@ overflow_sub-h c = omega (arith, (valid_known _ c.requires.0).b_low)
 pub count_run-requires-2 : goal.count_run-requires-2
 count_run-requires-2 c = (c.requires.0, c.requires.1, omega (arith, (valid_known _ c.requires.0).b_low), omega (arith, far_room c.args.h, c.requires.2, c.requires.3, c.count_run.auto.room))
 
-pub shape_of-room : goal.shape_of-room
-shape_of-room c = c.count_run-2.auto.room ∙ c.count_run.auto.room
-
 pub returns : goal.returns
 unfolding table_counted
 returns c = c.count_run-2.ensures

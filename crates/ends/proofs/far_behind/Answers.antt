@@ -23,9 +23,6 @@ pub returns-then-sub-inside : goal.returns-then-sub-inside
 unfolding far_behind
 returns-then-sub-inside c = let a = c.args in rw (le-ltb a.inside a.sub c.if-sub-inside.true) (omega arith)
 
-pub overflow_add-inside : goal.overflow_add-inside
-overflow_add-inside c = omega (arith, c.requires.0)
-
 pub returns-then-inside-places : goal.returns-then-inside-places
 unfolding far_behind
 returns-then-inside-places c = let a = c.args in

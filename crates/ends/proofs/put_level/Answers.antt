@@ -1,7 +1,7 @@
 -- `ends::put_level` meets its contract: after p turns the codes for the first p places of the cell stand in the room.
 use mathlib.Core.Path.{◌≡◌, refl, ◌∙◌, ap}
-use Prim.Native.Nat.{ℕ, suc, ◌+◌, ◌-◌, ◌*◌, ◌/◌, ◌≤◌, ◌<◌}
-use native.Mathlib.Nat.{mod-lt, div-add-mod', mul-le-mul_right}
+use Prim.Native.Nat.{suc, ◌+◌, ◌-◌, ◌*◌, ◌/◌, ◌≤◌, ◌<◌}
+use native.Mathlib.Nat.{mod-lt, mul-le-mul_right}
 use native.Mathlib.Numerals.{add-one}
 use native.Mathlib.Omega.{arith}
 use lib.ListN.{length}
@@ -13,9 +13,8 @@ use Rattle.local.specs.Local.{cell_size, first_of}
 use Rattle.local.proofs.Sizes.{cell_size_lem, size_pos}
 use Rattle.ends.specs.Tables.{levels, far_code}
 use Rattle.ends.specs.Filling.{spread}
-use Rattle.ends.proofs.Spread.{length-spread}
-use Rattle.ends.proofs.Codes.{first_by, first_in_lem, size_some, far_is, far_fits, far_read, cell_few, levels_few, all_far}
-use Rattle.ends.proofs.put_level.Goals.{After-code_at, After-neighbour_of-far, After-struct_known-1}
+use Rattle.ends.proofs.Codes.{first_by, first_in_lem, size_some, far_is, far_fits, far_read, cell_few, all_far}
+use Rattle.ends.proofs.put_level.Goals.{In-loop-p, After-neighbour_of-far, After-struct_known-1}
 use Rattle.ends.proofs.put_level.Goals as goal
 
 counted : (c : After-struct_known-1) → c.size_of-count.result ≡ cell_size c.args.h
@@ -38,29 +37,14 @@ some : (c : After-neighbour_of-far) → 0 < c.size_of-size.result
 some c = size_some c.args.h c.requires.0 c.args.uid c.args.level c.requires.1 c.requires.2 c.requires.3 _ _ _ _ (cell_size_lem _ _ c.requires.0 c.size_of-count.ensures) (size_of_lem _ _ _ c.requires.0 (omega (arith, c.requires.3)) c.size_of-size.ensures) (first_by c.args.h c.args.uid _ (cell_size_lem _ _ c.requires.0 c.size_of-count.ensures)) (far_told c)
 
 -- the next place is in the room
-room_is : (c : After-code_at) → length c.loop-p.room ≡ length c.args.room.now
-room_is c = ap length c.loop-p.invariant.2 ∙ length-spread (levels c.args.h) c.args.room.now c.args.at (λ q. far_code c.args.h c.args.table.now (first_of c.args.h c.args.uid + q) c.args.level) c.loop-p.p
-
-stands_in : (c : After-code_at) → c.loop-p.next < length c.args.room.now
+stands_in : (c : In-loop-p) → c.args.at + c.loop-p.p * levels c.args.h < length c.args.room.now
 stands_in c =
     let l = c.loop-p in
     let m : suc l.p * levels c.args.h ≤ c.size_of-count.result * levels c.args.h = mul-le-mul_right (levels c.args.h) c.loop-p-test.true in
-    omega (arith, m, l.invariant.1, all_far c.args.h c.requires.0 _ (cell_size_lem _ _ c.requires.0 c.size_of-count.ensures), c.requires.4)
-
-pub overflow_sub-level : goal.overflow_sub-level
-overflow_sub-level c = omega (arith, c.requires.2)
-
-pub overflow_sub-step : goal.overflow_sub-step
-overflow_sub-step c = omega (arith, (valid_known _ c.requires.0).b_low)
-
-pub overflow_cast-step : goal.overflow_cast-step
-overflow_cast-step c = omega (arith, levels_few _ c.requires.0)
+    omega (arith, m, all_far c.args.h c.requires.0 _ (cell_size_lem _ _ c.requires.0 c.size_of-count.ensures), c.requires.4)
 
 pub nonzero_div-first : goal.nonzero_div-first
 nonzero_div-first c = omega (arith, counted (goal.at.nonzero_div-first c).After-struct_known-1, size_pos _ (valid_known _ c.requires.0))
-
-pub overflow_mul-first : goal.overflow_mul-first
-overflow_mul-first c = omega (arith, div-add-mod' c.args.uid c.size_of-count.result)
 
 pub nonzero_rem-inside : goal.nonzero_rem-inside
 nonzero_rem-inside c = some (goal.at.nonzero_rem-inside c).After-neighbour_of-far
@@ -73,7 +57,7 @@ overflow_add-sub c = omega (arith, sized (goal.at.overflow_add-sub c).After-stru
 
 pub loop-p-init : goal.loop-p-init
 unfolding spread
-loop-p-init c = (omega arith, omega arith, refl)
+loop-p-init c = refl
 
 pub far_behind-requires : goal.far_behind-requires
 far_behind-requires c =
@@ -82,20 +66,11 @@ far_behind-requires c =
     c.loop-p.p c.loop-p-test.true in
     (omega (arith, m, c.loop-p-test.true, counted (goal.at.far_behind-requires c).After-struct_known-1, cell_few c.args.h c.requires.0, sized (goal.at.far_behind-requires c).After-struct_known-1, valid_size c.args.h (valid_known c.args.h c.requires.0) (c.args.level - 1) (omega (arith, c.requires.3))), omega (arith, f))
 
-pub code_at-requires : goal.code_at-requires
-code_at-requires c = c.requires.3
+pub overflow_add-place : goal.overflow_add-place
+overflow_add-place c = omega (arith, stands_in (goal.at.overflow_add-place c).In-loop-p)
 
-pub bounds-room-next : goal.bounds-room-next
-bounds-room-next c = omega (arith, stands_in (goal.at.bounds-room-next c).After-code_at, room_is (goal.at.bounds-room-next c).After-code_at)
-
-pub overflow_add-next : goal.overflow_add-next
-overflow_add-next c = omega (arith, stands_in (goal.at.overflow_add-next c).After-code_at, levels_few _ c.requires.0)
-
-pub overflow_add-p : goal.overflow_add-p
-overflow_add-p c = omega (arith, c.loop-p-test.true)
-
-pub loop-p-smaller : goal.loop-p-smaller
-loop-p-smaller c = omega (arith, c.loop-p-test.true)
+pub bounds-room-place : goal.bounds-room-place
+bounds-room-place c = omega (arith, stands_in (goal.at.bounds-room-place c).In-loop-p, c.loop-p.auto.room)
 
 pub loop-p-preserved : goal.loop-p-preserved
 unfolding spread
@@ -103,17 +78,11 @@ loop-p-preserved c =
     let l = c.loop-p in
     let f = far_is c.args.h c.requires.0 c.args.uid c.args.level c.requires.1 c.requires.2 c.requires.3 _ _ _ _ (counted (goal.at.loop-p-preserved c).After-struct_known-1) (sized (goal.at.loop-p-preserved c).After-struct_known-1) (first_is (goal.at.loop-p-preserved c).After-struct_known-1) (far_told (goal.at.loop-p-preserved c).After-neighbour_of-far)
     l.p c.loop-p-test.true in
-    let r = far_read c.args.h c.args.table.now (first_of c.args.h c.args.uid + l.p) c.args.level _ c.code_at.result c.code_at.ensures (c.far_behind.ensures ∙ f) in (
-      omega (arith, c.loop-p-test.true),
-      omega (arith, l.invariant.1),
-      rw (l.invariant.1, l.invariant.2, r, add-one l.p),
-    )
-
-pub shape_of-room : goal.shape_of-room
-shape_of-room c = ap length c.loop-p.invariant.2 ∙ length-spread (levels c.args.h) c.args.room.now c.args.at (λ q. far_code c.args.h c.args.table.now (first_of c.args.h c.args.uid + q) c.args.level) c.loop-p.p
+    let r = far_read c.args.h c.args.table.now (first_of c.args.h c.args.uid + l.p) c.args.level _ c.code_at.result c.code_at.ensures (c.far_behind.ensures ∙ f) in
+    rw (l.invariant, r, add-one l.p)
 
 pub returns : goal.returns
 returns c =
     let l = c.loop-p in
-    let e : l.p ≡ cell_size c.args.h = omega (arith, l.invariant.0, c.loop-p-test.false, counted (goal.at.returns c).After-struct_known-1) in
-    l.invariant.2 ∙ ap (spread c.args.room.now c.args.at (levels c.args.h) (λ q. far_code c.args.h c.args.table.now (first_of c.args.h c.args.uid + q) c.args.level)) e
+    let e : l.p ≡ cell_size c.args.h = omega (arith, l.auto.p-end, c.loop-p-test.false, counted (goal.at.returns c).After-struct_known-1) in
+    l.invariant ∙ ap (spread c.args.room.now c.args.at (levels c.args.h) (λ q. far_code c.args.h c.args.table.now (first_of c.args.h c.args.uid + q) c.args.level)) e

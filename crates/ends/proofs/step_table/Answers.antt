@@ -1,22 +1,17 @@
 -- `ends::step_table` meets its contract: refused as the part is, by 6 where the room is short, else the part and the far codes behind it, which in a
 -- full hall count as they stand and in another are counted then.
-use mathlib.Core.Path.{◌≡◌, refl, sym, ◌∙◌, ap}
-use mathlib.Core.List.{List, ◌++◌}
-use Prim.Native.Nat.{ℕ, ◌+◌, ◌-◌, ◌*◌, ◌≤◌}
+use mathlib.Core.Path.{refl, sym, ◌∙◌, ap}
+use mathlib.Core.List.{List}
+use Prim.Native.Nat.{ℕ, ◌-◌, ◌*◌, ◌≤◌}
 use native.Mathlib.Omega.{arith}
-use lib.ListN.{length, drop}
-use Rattle.combine.specs.Lists.{up_to}
-use Rattle.words.specs.Rooms.{put}
+use lib.ListN.{length}
 use Rattle.hall.proofs.Growth.{valid_known}
 use Rattle.hall.specs.Halls.{top}
-use Rattle.local.specs.Local.{places, cell_size}
-use Rattle.local.proofs.Sizes.{cell_size_lem}
-use Rattle.ports.specs.Codes.{cell_length, part}
-use Rattle.ports.proofs.Parts.{Sound}
+use Rattle.local.specs.Local.{places}
 use Rattle.plan.proofs.Asks.{full_is}
 use Rattle.counted.proofs.Counted.{counted_full}
-use Rattle.ends.specs.Tables.{far_count, far_at, step_length, step_table}
-use Rattle.ends.proofs.Codes.{all_far, far_few, cell_bytes}
+use Rattle.ends.specs.Tables.{step_length, step_table}
+use Rattle.ends.proofs.Codes.{far_few, cell_bytes}
 use Rattle.ends.proofs.Answers.{Parted, parted, plain_room, table_refused, table_short, table_told, table_written}
 use Rattle.ends.proofs.Counts.{counted_table}
 use Rattle.ends.proofs.step_table.Goals.{After-struct_known-1}
@@ -41,9 +36,6 @@ overflow_sub-far c = omega (arith, (valid_known _ (known (goal.at.overflow_sub-f
 pub overflow_mul-far : goal.overflow_mul-far
 overflow_mul-far c = omega (arith, few (goal.at.overflow_mul-far c).After-struct_known-1)
 
-pub overflow_cast-far : goal.overflow_cast-far
-overflow_cast-far c = omega (arith, few (goal.at.overflow_cast-far c).After-struct_known-1)
-
 pub overflow_add-near : goal.overflow_add-near
 overflow_add-near c =
     let here = (goal.at.overflow_add-near c).After-struct_known-1 in
@@ -58,9 +50,6 @@ pub put_far-requires : goal.put_far-requires
 put_far-requires c =
     let k = known (goal.at.put_far-requires c).After-struct_known-1 in
     (k.sound.is_valid, k.sound.below, omega (arith, k.wanted, c.if-room-near.false, k.far_is, c.put_bytes.auto.room))
-
-pub shape_of-room-then-h-racks_of : goal.shape_of-room-then-h-racks_of
-shape_of-room-then-h-racks_of c = c.put_far.auto.room ∙ c.put_bytes.auto.room
 
 pub returns-then-h-racks_of : goal.returns-then-h-racks_of
 returns-then-h-racks_of c =
@@ -80,10 +69,6 @@ pub count_codes-requires : goal.count_codes-requires
 count_codes-requires c =
     let k = known (goal.at.count_codes-requires c).After-struct_known-1 in
     (k.sound.is_valid, k.sound.below, k.near_long, omega (arith, k.wanted, c.if-room-near.false, c.put_far.auto.room, c.put_bytes.auto.room))
-
-pub shape_of-room : goal.shape_of-room
-shape_of-room c =
-    c.count_codes.auto.room ∙ c.put_far.auto.room ∙ c.put_bytes.auto.room
 
 pub returns : goal.returns
 returns c =
