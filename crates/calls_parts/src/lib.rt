@@ -18,7 +18,6 @@ ghost use Rattle.calls_parts.specs.Outcomes.{of_first_link};
 
 use hall::Hall;
 use rooms::tell;
-use route::Crossing;
 
 pub fn calls_n_fits(n: u32) -> bool
     ensures { result ≡ n_fits n }
@@ -49,17 +48,10 @@ pub fn calls_first_link(n: u32, k: u32, b: u32, count: u32, x: u32, y: u32, room
     ensures number { result ≡ told (of_first_link (first_link_of (hall_of n k b count) x y)) room.old }
     ensures room { room.new ≡ written (of_first_link (first_link_of (hall_of n k b count) x y)) room.old }
 {
-    let a = route::first_link(Hall { n, k, b, count }, x, y);
-    let link = a.link;
-    match link {
-        Crossing::Nothing => {
-            let words = [0u32, 0u32, 0u32];
-            tell(a.refusal, &words, room)
-        }
-        Crossing::Link { near, far, level } => {
-            let words = [level, near, far];
-            tell(a.refusal, &words, room)
-        }
+    match route::first_link(Hall { n, k, b, count }, x, y) {
+        Ok(None) => tell(&[0; 3], room),
+        Ok(Some(link)) => tell(&[link.level, link.near, link.far], room),
+        Err(refusal) => refusal.number(),
     }
 }
 
@@ -114,11 +106,17 @@ pub fn calls_put_bytes(room: &mut [u8], at: usize, bytes: &[u8])
 pub fn calls_check_place(n: u32, k: u32, b: u32, count: u32, table: &[u8]) -> u32
     ensures { result ≡ (check_of (hall_of n k b count) table.now).place }
 {
-    ports::check_table(Hall { n, k, b, count }, table).place
+    match ports::check_table(Hall { n, k, b, count }, table) {
+        Ok(()) => 0,
+        Err(fault) => fault.place,
+    }
 }
 
 pub fn calls_route_links(n: u32, k: u32, b: u32, count: u32, x: u32, y: u32) -> u32
     ensures { result ≡ (route_between (hall_of n k b count) x y).links }
 {
-    route::route_between(Hall { n, k, b, count }, x, y).links
+    match route::route_between(Hall { n, k, b, count }, x, y) {
+        Ok(route) => route.links,
+        Err(_) => 0,
+    }
 }

@@ -22,9 +22,10 @@ pub fn calls_next_prefix(n: u32, k: u32, b: u32, count: u32, room: &mut [u32]) -
     ensures number { result ≡ told (of_prefix (next_prefix (hall_of n k b count))) room.old }
     ensures room { room.new ≡ written (of_prefix (next_prefix (hall_of n k b count))) room.old }
 {
-    let a = plan::next_prefix(Hall { n, k, b, count });
-    let words = a.entries;
-    tell(a.refusal, &words, room)
+    match plan::next_prefix(Hall { n, k, b, count }) {
+        Ok(entries) => tell(&entries, room),
+        Err(refusal) => refusal.number(),
+    }
 }
 
 pub fn calls_is_fitted(n: u32, k: u32, b: u32, count: u32, uid: u32) -> bool

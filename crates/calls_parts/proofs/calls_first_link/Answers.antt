@@ -1,8 +1,10 @@
--- `calls_parts::calls_first_link` meets its contract: it tells nothing by zeros, and a link by its level and its ends.
+-- `calls_parts::calls_first_link` meets its contract: a refusal is told by its number.
+use mathlib.Core.Path.{◌∙◌}
+use Rattle.hall.proofs.Stated.{refusal_told, refusal_unwritten}
 use Rattle.calls_parts.proofs.calls_first_link.Goals as goal
 
-pub returns-in-Nothing : goal.returns-in-Nothing
-returns-in-Nothing c = record { number = rw (← c.first_link-a.ensures, c.in-Nothing.is) c.tell.ensures.number; room = rw (← c.first_link-a.ensures, c.in-Nothing.is) c.tell.ensures.room }
+pub returns-in-Err-clause-number : goal.returns-in-Err-clause-number
+returns-in-Err-clause-number c = rw (← c.in-Err.ensures) (c.number.ensures ∙ refusal_told _ _ _)
 
-pub returns-in-Link : goal.returns-in-Link
-returns-in-Link c = record { number = rw (← c.first_link-a.ensures, c.in-Link.is) c.tell-in-Link.ensures.number; room = rw (← c.first_link-a.ensures, c.in-Link.is) c.tell-in-Link.ensures.room }
+pub returns-in-Err-clause-room : goal.returns-in-Err-clause-room
+returns-in-Err-clause-room c = rw (← c.in-Err.ensures) (refusal_unwritten _ _ _)

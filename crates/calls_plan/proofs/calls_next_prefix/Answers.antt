@@ -1,5 +1,10 @@
--- `calls_plan::calls_next_prefix` meets its contract: it tells what the call answers.
+-- `calls_plan::calls_next_prefix` meets its contract: a refusal is told by its number.
+use mathlib.Core.Path.{◌∙◌}
+use Rattle.hall.proofs.Stated.{refusal_told, refusal_unwritten}
 use Rattle.calls_plan.proofs.calls_next_prefix.Goals as goal
 
-pub returns : goal.returns
-returns c = record { number = rw (← c.next_prefix-a.ensures) c.tell.ensures.number; room = rw (← c.next_prefix-a.ensures) c.tell.ensures.room }
+pub returns-in-Err-clause-number : goal.returns-in-Err-clause-number
+returns-in-Err-clause-number c = rw (← c.in-Err.ensures) (c.number.ensures ∙ refusal_told _ _ _)
+
+pub returns-in-Err-clause-room : goal.returns-in-Err-clause-room
+returns-in-Err-clause-room c = rw (← c.in-Err.ensures) (refusal_unwritten _ _ _)
