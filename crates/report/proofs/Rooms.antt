@@ -1,10 +1,10 @@
 -- Laws of text written to lent room: one text behind another, and a line that is refused or written.
 use mathlib.Core.Path.{◌≡◌, sym, ◌∙◌}
 use mathlib.Core.Bool.{Bool, true, false}
-use mathlib.Core.List.{List, [], ◌∷◌, ◌++◌}
+use mathlib.Core.List.{List, [], ◌∷◌, ◌++◌, append_assoc}
 use Prim.Native.Nat.{ℕ, ◌+◌, ◌≤◌, ◌<◌}
 use native.Mathlib.Omega.{arith}
-use lib.ListN.{length, set, length-append}
+use lib.ListN.{length, set, take, drop, length-append, take-append-drop}
 use lib.Dec.{leb}
 use borrow.Author.Tests.{leb-true}
 use Rattle.words.specs.Rooms.{put, roomy, room_of}
@@ -45,3 +45,10 @@ line_fits room at text t e f = leb-true (at + length text) (length room) (sym e 
 -- a test by a length is the test by what has it
 pub by_length : (at wanted : ℕ) (text room : List ℕ) (t : Bool) → wanted ≡ length text → t ≡ leb (at + wanted) (length room) → t ≡ leb (at + length text) (length room)
 by_length at wanted text room t e f = rw (← e) f
+
+-- digits that were written up to an end
+pub digits_put : (room new digits : List ℕ) (at start end : ℕ) → start ≡ at → end ≡ at + length digits
+    → take start new ≡ take start room → drop start new ≡ digits ++ drop end room → new ≡ put room at digits
+unfolding put
+digits_put room new digits at start end s e before written =
+    sym (take-append-drop start new) ∙ rw (before, written, s, e) (sym (append_assoc (take at room) digits (drop (at + length digits) room)))

@@ -1,13 +1,18 @@
 -- Laws of the text: a number's digits by its last, how long each part of a line is and can be, and the uids one behind the other.
 use mathlib.Core.Path.{◌≡◌, refl, sym, ◌∙◌, ap}
 use mathlib.Core.List.{List, [], ◌∷◌, ◌++◌, append_assoc, append-nil}
-use Prim.Native.Nat.{ℕ, zero, suc, min, ◌+◌, ◌*◌, ◌/◌, ◌%◌, ◌-◌, ◌≤◌, ◌<◌}
+use Prim.Native.Nat.{ℕ, zero, suc, min, max, ◌+◌, ◌*◌, ◌^◌, ◌/◌, ◌%◌, ◌≤◌, ◌<◌}
 use native.Mathlib.Numerals.{add-one}
 use native.Mathlib.Omega.{arith}
 use lib.Dec.{eqb, ltb}
-use lib.ListN.{length, take, drop, get_or, length-append}
-use lib.Seq.{take-suc, take_all, take-add}
+use native.Mathlib.Nat.{pow-suc, one-le-pow}
+use lib.ListN.{length, take, drop, get_or, length-append, take-append-drop}
+use lib.Seq.{take-suc, take_all}
 use borrow.Author.Tests.{ltb-true, ltb-false, lt-ltb, le-ltb, eqb-true, eqb-false, eq-eqb, ne_eqb}
+use Rattle.std.specs.Fmt.{decimal as library_decimal}
+use Rattle.std.specs.List.{sum_by}
+use Rattle.std.proofs.lemmas.Fmt.{AppendsLastDigit, decimal_from_appends, length-decimal-le_succ}
+use Rattle.std.proofs.lemmas.List.Sums.{sum_by-cons}
 use Rattle.combine.proofs.Tests.{cases}
 use Rattle.hall.specs.declared.Hall.{Hall}
 use Rattle.report.specs.declared.PacketReport.{PacketReport}
@@ -35,6 +40,29 @@ decimal_more v h = rw (le-ltb v 10 h, digits_enough v (suc (v / 10)) (v / 10) (o
 
 pub decimal_more_length : (v : ℕ) → 10 ≤ v → length (decimal v) ≡ length (decimal (v / 10)) + 1
 decimal_more_length v h = ap length (decimal_more v h) ∙ length-append (decimal (v / 10)) ((48 + v % 10) ∷ [])
+
+-- a number in decimal is the library's
+pub decimal_known : (v : ℕ) → v < 2 ^ 64 → decimal v ≡ library_decimal v
+unfolding decimal digits_within
+decimal_known v h = decimal_from_appends digits_within last_digit (suc v) v h (omega (arith, length-decimal-le_succ v h))
+  where
+    last_digit : AppendsLastDigit digits_within
+    last_digit = record {
+      one = λ most n l. rw (lt-ltb n 10 l);
+      more = λ most n l. rw (le-ltb n 10 l);
+    }
+
+-- by the power of ten that it reaches
+pub decimal_power_length : (k v : ℕ) → 10 ^ k ≤ v → v < 10 * 10 ^ k → length (decimal v) ≡ k + 1
+decimal_power_length zero v h l = omega (arith, ap length (decimal_small v (omega arith)))
+decimal_power_length (suc k) v h l =
+    let p = pow-suc 10 k in
+    omega (arith, decimal_more_length v (omega (arith, one-le-pow k 10 (omega arith))), decimal_power_length k (v / 10) (omega arith) (omega arith))
+
+-- zero has as many digits as one
+pub decimal_max_length : (v : ℕ) → length (decimal (max v 1)) ≡ length (decimal v)
+decimal_max_length zero = ap length (decimal_small 1 (omega arith)) ∙ sym (ap length (decimal_small 0 (omega arith)))
+decimal_max_length (suc v) = let e : max (suc v) 1 ≡ suc v = omega arith in ap (λ (n : ℕ). length (decimal n)) e
 
 -- ten times as large, one digit more
 longer : (bound most : ℕ) → 0 < most → ((v : ℕ) → v < bound → length (decimal v) ≤ most) → (v : ℕ) → v < bound * 10 → length (decimal v) ≤ most + 1
@@ -108,19 +136,23 @@ uids_next_length uids i h =
     omega (arith, ap length (uids_next uids i h), length-append (uids_text (take i uids)) (space ∷ decimal (get_or uids i 0)))
 
 -- a uid is within the text of all
-pub uids_within : (uids : List ℕ) (i count : ℕ) → i < count → count ≤ length uids
-    → length (uids_text (take i uids)) + (length (decimal (get_or uids i 0)) + 1) ≤ length (uids_text (take count uids))
-uids_within uids i count h k =
-    let rest = take (count - (i + 1)) (drop (i + 1) uids) in
-    let n : count ≡ i + 1 + (count - (i + 1)) = omega arith in
-    let e = ap (λ (x : ℕ). take x uids) n ∙ take-add (i + 1) (count - (i + 1)) uids in
+pub uids_within : (uids : List ℕ) (i : ℕ) → i < length uids
+    → length (uids_text (take i uids)) + (length (decimal (get_or uids i 0)) + 1) ≤ length (uids_text uids)
+uids_within uids i h =
+    let e = take-append-drop (i + 1) uids in
     omega (
       arith,
       ap (λ (l : List ℕ). length (uids_text l)) e,
-      ap length (uids_append (take (i + 1) uids) rest),
-      length-append (uids_text (take (i + 1) uids)) (uids_text rest),
-      uids_next_length uids i (omega arith),
+      ap length (uids_append (take (i + 1) uids) (drop (i + 1) uids)),
+      length-append (uids_text (take (i + 1) uids)) (uids_text (drop (i + 1) uids)),
+      uids_next_length uids i h,
     )
+
+-- the text of uids is as long as their digits and spaces
+pub uids_sum : (uids : List ℕ) → sum_by (λ u. length (decimal u) + 1) uids ≡ length (uids_text uids)
+unfolding uids_text
+uids_sum [] = refl
+uids_sum (u ∷ uids) = omega (arith, sum_by-cons (λ w. length (decimal w) + 1) u uids, length-append (space ∷ decimal u) (uids_text uids), uids_sum uids)
 
 -- 32-bit uids fit eleven bytes each
 pub uids_fit : (uids : List ℕ) → ((i : ℕ) → get_or uids i 0 < 4294967296) → (count : ℕ) → count ≤ length uids → length (uids_text (take count uids)) ≤ 11 * count
@@ -130,6 +162,11 @@ uids_fit uids below (suc i) h =
     let e : length (uids_text (take (suc i) uids)) ≡ length (uids_text (take i uids)) + (length (decimal (get_or uids i 0)) + 1) =
     rw (← add-one i) (uids_next_length uids i (omega arith)) in
     omega (arith, uids_fit uids below i (omega arith), decimal_fits (get_or uids i 0) (below i))
+
+pub uids_fit_all : (uids : List ℕ) → ((i : ℕ) → get_or uids i 0 < 4294967296) → length (uids_text uids) ≤ 11 * length uids
+uids_fit_all uids below =
+    let e : take (length uids) uids ≡ uids = take_all (length uids) uids (omega arith) in
+    omega (arith, uids_fit uids below (length uids) (omega arith), ap (λ (l : List ℕ). length (uids_text l)) e)
 
 -- no more uids than there are
 pub take_given : (uids : List ℕ) (most : ℕ) → take (min most (length uids)) uids ≡ take most uids

@@ -1,5 +1,5 @@
 // How long a line and each of its parts will be, so that a line is measured before a byte of it is written.
-ghost use Rattle.std.specs.Prelude.{◌≡◌, min, ◌+◌, ◌≤◌, leb, length, take};
+ghost use Rattle.std.specs.Prelude.{◌≡◌, min, ◌+◌, ◌≤◌, leb, length};
 ghost use Rattle.report.specs.Texts.{decimal, ending_text, uids_text, packet_head, hall_line, refused_line, end_line, packet_line};
 
 use crate::{LINE_ROOM, PacketReport};
@@ -21,13 +21,7 @@ pub(crate) fn digits(v: u32) -> usize
     ensures length { result ≡ length (decimal v) }
     ensures most { result ≤ 10 }
 {
-    let mut left = v;
-    let mut count: usize = 1;
-    while 10 <= left {
-        left = left / 10;
-        count += 1;
-    }
-    count
+    v.max(1).ilog10() as usize + 1
 }
 
 // HALL and three numbers, a byte behind each.
@@ -75,46 +69,27 @@ fn head_length(p: PacketReport) -> usize
         + 5
 }
 
-// So many uids from the first on, a space before each.
-fn uids_length(uids: &[u32], count: usize) -> usize
-    requires { (count ≤ 256) × (count ≤ length uids.now) }
-    ensures length { result ≡ length (uids_text (take count uids.now)) }
+// Uids, a space before each.
+fn uids_length(uids: &[u32]) -> usize
+    requires { length uids.now ≤ 256 }
+    ensures length { result ≡ length (uids_text uids.now) }
     ensures most { result ≤ 2816 }
 {
-    let mut sum: usize = 0;
-    let mut i: usize = 0;
-    while i < count {
-        sum += digits(uids[i]) + 1;
-        i += 1;
-    }
-    sum
-}
-
-// The smaller of two numbers.
-fn smaller(a: usize, b: usize) -> usize
-    ensures { result ≡ min a b }
-{
-    if a < b {
-        return a;
-    }
-    b
+    uids.iter().map(|uid| digits(*uid) + 1).sum()
 }
 
 // How many uids there are to tell of a packet that crossed so many links: at most 256, and no more than are given.
 pub(crate) fn passed(links: u32, given: usize) -> usize
     ensures { result ≡ min (min (links + 1) 256) given }
 {
-    if links < 255 {
-        return smaller(links as usize + 1, given);
-    }
-    smaller(256, given)
+    (links as usize + 1).min(256).min(given)
 }
 
 // A packet's line, to its newline.
 fn packet_length(p: PacketReport, uids: &[u32]) -> usize
     ensures { result ≡ length (packet_line p uids.now) }
 {
-    head_length(p) + uids_length(uids, passed(p.links, uids.len())) + 1
+    head_length(p) + uids_length(&uids[..passed(p.links, uids.len())]) + 1
 }
 
 // Whether a room of a length has room for a packet's line from a place on: measured only where the longest line would not fit.

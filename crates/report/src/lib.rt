@@ -102,7 +102,7 @@ pub fn packet_line(room: &mut [u8], at: usize, p: PacketReport, uids: &[u32]) ->
         };
     }
     let uids_at = put_packet(room, at, p);
-    let newline_at = put_uids(room, uids_at, uids, passed(p.links, uids.len()));
+    let newline_at = put_uids(room, uids_at, &uids[..passed(p.links, uids.len())]);
     room[newline_at] = NEWLINE;
     Written {
         refusal: 0,

@@ -1,12 +1,11 @@
 // The parts of a line, each written at a place of a room that has enough behind it; answered is the next place.
-ghost use Rattle.std.specs.Prelude.{◌≡◌, ◌+◌, ◌≤◌, length, take};
+ghost use Rattle.std.specs.Prelude.{◌≡◌, ◌+◌, ◌≤◌, length};
 ghost use Rattle.report.specs.Texts.{decimal, number_with, ending_text, packet_head, uids_text};
 ghost use Rattle.words.specs.Rooms.{put};
 
 use crate::PacketReport;
+use crate::lengths::digits;
 use forward::endings::DELIVERED;
-
-const DIGIT_ZERO: u32 = 48;
 
 const SPACE: u8 = 32;
 
@@ -28,13 +27,9 @@ pub(crate) fn put_number(room: &mut [u8], at: usize, v: u32) -> usize
     ensures next { result ≡ at + length (decimal v) }
     ensures room { room.new ≡ put room.old at (decimal v) }
 {
-    if v < 10 {
-        room[at] = (DIGIT_ZERO + v) as u8;
-        return at + 1;
-    }
-    let last = put_number(room, at, v / 10);
-    room[last] = (DIGIT_ZERO + v % 10) as u8;
-    last + 1
+    let next = at + digits(v);
+    itoa::write_digits(u64::from(v), room, next);
+    next
 }
 
 // A number in decimal with a byte behind it.
@@ -61,18 +56,16 @@ pub(crate) fn put_ending(room: &mut [u8], at: usize, ending: u32) -> usize
     put_with(room, number_at, ending, SPACE)
 }
 
-// So many uids from the first on, a space before each.
-pub(crate) fn put_uids(room: &mut [u8], at: usize, uids: &[u32], count: usize) -> usize
-    requires { (at + length (uids_text (take count uids.now)) ≤ length room.old) × (count ≤ length uids.now) }
-    ensures next { result ≡ at + length (uids_text (take count uids.now)) }
-    ensures room { room.new ≡ put room.old at (uids_text (take count uids.now)) }
+// Uids, a space before each.
+pub(crate) fn put_uids(room: &mut [u8], at: usize, uids: &[u32]) -> usize
+    requires { at + length (uids_text uids.now) ≤ length room.old }
+    ensures next { result ≡ at + length (uids_text uids.now) }
+    ensures room { room.new ≡ put room.old at (uids_text uids.now) }
 {
     let mut next = at;
-    let mut i: usize = 0;
-    while i < count {
+    for uid in uids {
         room[next] = SPACE;
-        next = put_number(room, next + 1, uids[i]);
-        i += 1;
+        next = put_number(room, next + 1, *uid);
     }
     next
 }

@@ -1,10 +1,8 @@
 -- `report::hall_line` meets its contract: each part stands behind the one before it, and the room is as long as they are together.
-use mathlib.Core.Path.{◌∙◌}
 use mathlib.Core.List.{◌++◌}
 use Prim.Native.Nat.{◌+◌, ◌≤◌}
 use native.Mathlib.Omega.{arith}
 use lib.ListN.{length}
-use borrow.Author.Tests.{not-true, not-false}
 use Rattle.report.specs.Texts.{space, newline, word_hall, number_with, hall_line}
 use Rattle.report.proofs.Rooms.{put_next, by_length, line_short, line_written, line_fits}
 use Rattle.report.proofs.Texts.{hall_parts}
@@ -18,7 +16,7 @@ behind c =
     let n = c.hall_length in
     let r = c.room_behind in
     line_fits a.room.now a.at (hall_line a.h) r.result (by_length a.at n.result (hall_line a.h) a.room.now r.result n.ensures r.ensures)
-    (not-false r.result c.if-not-room_behind.false-raw)
+    c.if-not-room_behind.false
 
 pub returns-then-not-room_behind : goal.returns-then-not-room_behind
 returns-then-not-room_behind c =
@@ -26,7 +24,7 @@ returns-then-not-room_behind c =
     let n = c.hall_length in
     let r = c.room_behind in
     line_short a.room.now a.at (hall_line a.h) r.result (by_length a.at n.result (hall_line a.h) a.room.now r.result n.ensures r.ensures)
-    (not-true r.result c.if-not-room_behind.true-raw) in record { answer = it.0; room = it.1 }
+    c.if-not-room_behind.true in record { answer = it.0; room = it.1 }
 
 pub put_bytes-n_at-requires : goal.put_bytes-n_at-requires
 put_bytes-n_at-requires c =
@@ -48,9 +46,6 @@ put_with-end-requires c =
     let a = c.args in
     omega (arith, behind (goal.at.put_with-end-requires c).Else-not-room_behind, hall_parts a.h, c.put_bytes-n_at.ensures.next, c.put_bytes-n_at.auto.room, c.put_with-k_at.ensures.next, c.put_with-k_at.auto.room, c.put_with-b_at.ensures.next, c.put_with-b_at.auto.room)
 
-pub shape_of-room : goal.shape_of-room
-shape_of-room c = c.put_with-end.auto.room ∙ c.put_with-b_at.auto.room ∙ c.put_with-k_at.auto.room ∙ c.put_bytes-n_at.auto.room
-
 pub returns : goal.returns
 unfolding hall_line
 returns c =
@@ -70,4 +65,4 @@ returns c =
     let s2 = put_next a.room.now a.at (word_hall ++ number_with space a.h.n ++ number_with space a.h.k) (number_with newline a.h.b) w1.result w2.result w1.new.room w2.new.room s1 (w2.ensures.next, w2.ensures.room)
     (omega (arith, b.ensures.next, w0.ensures.next, w1.ensures.next, s1.0)) in
     line_written a.room.now a.at (hall_line a.h) r.result (by_length a.at n.result (hall_line a.h) a.room.now r.result n.ensures r.ensures)
-    (not-false r.result c.if-not-room_behind.false-raw) w2.result w2.new.room s2 in record { answer = it.0; room = it.1 }
+    c.if-not-room_behind.false w2.result w2.new.room s2 in record { answer = it.0; room = it.1 }

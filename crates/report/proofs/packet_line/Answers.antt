@@ -1,13 +1,13 @@
 -- `report::packet_line` meets its contract: the head, the uids and the newline stand one behind the other, and the room is as long as they are together.
-use mathlib.Core.Path.{◌≡◌, ◌∙◌}
+use mathlib.Core.Path.{◌≡◌}
 use mathlib.Core.List.{◌++◌}
 use Prim.Native.Nat.{min, ◌+◌, ◌≤◌}
 use native.Mathlib.Omega.{arith}
-use lib.ListN.{length, take, length-set}
+use lib.ListN.{length, take}
 use Rattle.report.specs.Texts.{newline, packet_head, uids_text, packet_line}
 use Rattle.report.proofs.Rooms.{put_next, byte_next, line_short, line_written, line_fits}
 use Rattle.report.proofs.Texts.{line_parts, line_told, take_given}
-use Rattle.report.proofs.packet_line.Goals.{After-slice_known-3-1, Else-not-packet_fits}
+use Rattle.report.proofs.packet_line.Goals.{After-put_uids-newline_at, Else-not-packet_fits}
 use Rattle.report.proofs.packet_line.Goals as goal
 
 -- where the room is not short, it has the whole line behind its place
@@ -18,7 +18,7 @@ behind c =
     line_fits a.room.now a.at (packet_line a.p a.uids.now) r.result r.ensures c.if-not-packet_fits.false
 
 -- the newline's place is the last of the line
-newline_in : (c : After-slice_known-3-1) → c.put_uids-newline_at.result + 1 ≤ length c.args.room.now
+newline_in : (c : After-put_uids-newline_at) → c.put_uids-newline_at.result + 1 ≤ length c.args.room.now
 newline_in c =
     let a = c.args in
     let n = c.passed in
@@ -42,18 +42,13 @@ put_uids-newline_at-requires c =
     let p = c.put_packet-uids_at in
     let n = c.passed in
     let t = line_told a.p a.uids.now n.result n.ensures in
-    (omega (arith, behind (goal.at.put_uids-newline_at-requires c).Else-not-packet_fits, p.ensures.next, p.auto.room), omega (arith, n.ensures))
+    omega (arith, behind (goal.at.put_uids-newline_at-requires c).Else-not-packet_fits, p.ensures.next, p.auto.room)
 
 pub bounds-room-newline_at : goal.bounds-room-newline_at
-bounds-room-newline_at c = omega (arith, newline_in (goal.at.bounds-room-newline_at c).After-slice_known-3-1, c.put_packet-uids_at.auto.room, c.put_uids-newline_at.auto.room)
+bounds-room-newline_at c = omega (arith, newline_in (goal.at.bounds-room-newline_at c).After-put_uids-newline_at, c.put_packet-uids_at.auto.room, c.put_uids-newline_at.auto.room)
 
 pub overflow_add-result : goal.overflow_add-result
-overflow_add-result c = omega (arith, newline_in (goal.at.overflow_add-result c).After-slice_known-3-1)
-
-pub shape_of-room : goal.shape_of-room
-shape_of-room c =
-    let u = c.put_uids-newline_at in
-    length-set u.new.room u.result _ ∙ u.auto.room ∙ c.put_packet-uids_at.auto.room
+overflow_add-result c = omega (arith, newline_in (goal.at.overflow_add-result c).After-put_uids-newline_at)
 
 pub returns : goal.returns
 unfolding packet_line
@@ -63,7 +58,7 @@ returns c =
     let p = c.put_packet-uids_at in
     let n = c.passed in
     let u = c.put_uids-newline_at in
-    let l = newline_in (goal.at.returns c).After-slice_known-3-1 in
+    let l = newline_in (goal.at.returns c).After-put_uids-newline_at in
     let e : take n.result a.uids.now ≡ take (min (a.p.links + 1) 256) a.uids.now =
     rw n.ensures (take_given a.uids.now (min (a.p.links + 1) 256)) in
     let s = put_next a.room.now a.at (packet_head a.p) (uids_text (take n.result a.uids.now)) p.result u.result p.new.room u.new.room

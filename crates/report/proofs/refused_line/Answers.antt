@@ -1,10 +1,8 @@
 -- `report::refused_line` meets its contract: each part stands behind the one before it, and the room is as long as they are together.
-use mathlib.Core.Path.{◌∙◌}
 use mathlib.Core.List.{◌++◌}
 use Prim.Native.Nat.{◌+◌, ◌≤◌}
 use native.Mathlib.Omega.{arith}
 use lib.ListN.{length}
-use borrow.Author.Tests.{not-true, not-false}
 use Rattle.report.specs.Texts.{space, newline, word_refused, number_with, refused_line}
 use Rattle.report.proofs.Rooms.{put_next, by_length, line_short, line_written, line_fits}
 use Rattle.report.proofs.Texts.{refused_parts}
@@ -18,7 +16,7 @@ behind c =
     let n = c.refused_length in
     let r = c.room_behind in
     line_fits a.room.now a.at (refused_line a.number a.place) r.result (by_length a.at n.result (refused_line a.number a.place) a.room.now r.result n.ensures r.ensures)
-    (not-false r.result c.if-not-room_behind.false-raw)
+    c.if-not-room_behind.false
 
 pub returns-then-not-room_behind : goal.returns-then-not-room_behind
 returns-then-not-room_behind c =
@@ -26,7 +24,7 @@ returns-then-not-room_behind c =
     let n = c.refused_length in
     let r = c.room_behind in
     line_short a.room.now a.at (refused_line a.number a.place) r.result (by_length a.at n.result (refused_line a.number a.place) a.room.now r.result n.ensures r.ensures)
-    (not-true r.result c.if-not-room_behind.true-raw) in record { answer = it.0; room = it.1 }
+    c.if-not-room_behind.true in record { answer = it.0; room = it.1 }
 
 pub put_bytes-number_at-requires : goal.put_bytes-number_at-requires
 put_bytes-number_at-requires c =
@@ -42,9 +40,6 @@ pub put_with-end-requires : goal.put_with-end-requires
 put_with-end-requires c =
     let a = c.args in
     omega (arith, behind (goal.at.put_with-end-requires c).Else-not-room_behind, refused_parts a.number a.place, c.put_bytes-number_at.ensures.next, c.put_bytes-number_at.auto.room, c.put_with-place_at.ensures.next, c.put_with-place_at.auto.room)
-
-pub shape_of-room : goal.shape_of-room
-shape_of-room c = c.put_with-end.auto.room ∙ c.put_with-place_at.auto.room ∙ c.put_bytes-number_at.auto.room
 
 pub returns : goal.returns
 unfolding refused_line
@@ -62,4 +57,4 @@ returns c =
     let s1 = put_next a.room.now a.at (word_refused ++ number_with space a.number) (number_with newline a.place) w0.result w1.result w0.new.room w1.new.room s0 (w1.ensures.next, w1.ensures.room)
     (omega (arith, b.ensures.next, w0.ensures.next, s0.0)) in
     line_written a.room.now a.at (refused_line a.number a.place) r.result (by_length a.at n.result (refused_line a.number a.place) a.room.now r.result n.ensures r.ensures)
-    (not-false r.result c.if-not-room_behind.false-raw) w1.result w1.new.room s1 in record { answer = it.0; room = it.1 }
+    c.if-not-room_behind.false w1.result w1.new.room s1 in record { answer = it.0; room = it.1 }

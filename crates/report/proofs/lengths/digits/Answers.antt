@@ -1,21 +1,19 @@
--- `report::lengths::digits` meets its contract: the digits counted and those of what is left are always one more than all, and what is left falls.
-use mathlib.Core.Path.{refl, ap}
+-- `report::lengths::digits` meets its contract: a number has a digit more than the power of ten that it reaches, and zero has one.
+use mathlib.Core.Path.{ap}
+use Prim.Native.Nat.{ℕ}
 use native.Mathlib.Omega.{arith}
 use lib.ListN.{length}
-use Rattle.report.proofs.Texts.{decimal_small, decimal_more_length, decimal_fits}
+use Rattle.report.specs.Texts.{decimal}
+use Rattle.report.proofs.Texts.{decimal_power_length, decimal_max_length}
 use Rattle.report.proofs.lengths.digits.Goals as goal
 
-pub loop-left-init : goal.loop-left-init
-loop-left-init c = refl
-
-pub overflow_add-count : goal.overflow_add-count
-overflow_add-count c = omega (arith, decimal_fits c.args.v (omega arith))
-
-pub loop-left-preserved : goal.loop-left-preserved
-loop-left-preserved c = let l = c.loop-left in omega (arith, decimal_more_length l.left (omega arith))
-
-pub returns : goal.returns
-returns c =
-    let l = c.loop-left in
-    let d = ap length (decimal_small l.left (omega arith)) in
-    record { length = omega arith; most = omega (arith, decimal_fits c.args.v (omega arith)) }
+pub returns-clause-length : goal.returns-clause-length
+returns-clause-length c =
+    let p = c.ilog10.ensures in
+    let m = c.max.result in
+    omega (
+      arith,
+      decimal_power_length c.ilog10.result m p.power_le p.next_power_gt,
+      ap (λ (n : ℕ). length (decimal n)) c.max.ensures,
+      decimal_max_length c.args.v,
+    )

@@ -1,5 +1,5 @@
 -- `report::puts::put_ending` meets its contract: the word for a delivery, or that for a drop with its number behind it.
-use mathlib.Core.Path.{◌∙◌, ap}
+use mathlib.Core.Path.{ap}
 use native.Mathlib.Omega.{arith}
 use lib.ListN.{length}
 use Rattle.report.specs.Texts.{space, word_drop, number_with}
@@ -10,9 +10,6 @@ use Rattle.report.proofs.puts.put_ending.Goals as goal
 pub put_bytes-requires : goal.put_bytes-requires
 put_bytes-requires c =
     omega (arith, ap length (ending_delivered c.args.ending c.if-ending-eq-DELIVERED.true))
-
-pub shape_of-room-then-ending-eq-DELIVERED : goal.shape_of-room-then-ending-eq-DELIVERED
-shape_of-room-then-ending-eq-DELIVERED c = c.put_bytes.auto.room
 
 pub returns-then-ending-eq-DELIVERED : goal.returns-then-ending-eq-DELIVERED
 returns-then-ending-eq-DELIVERED c =
@@ -27,9 +24,6 @@ pub put_with-requires : goal.put_with-requires
 put_with-requires c =
     let p = c.put_bytes-number_at in
     omega (arith, p.ensures.next, p.auto.room, c.requires, drop-length c.args.ending c.if-ending-eq-DELIVERED.false)
-
-pub shape_of-room : goal.shape_of-room
-shape_of-room c = c.put_with.auto.room ∙ c.put_bytes-number_at.auto.room
 
 pub returns : goal.returns
 returns c =

@@ -1,8 +1,6 @@
 -- `report::puts::put_packet` meets its contract: each part stands behind the one before it, and the room is as long as they are together.
-use mathlib.Core.Path.{◌∙◌}
 use mathlib.Core.List.{◌++◌}
 use native.Mathlib.Omega.{arith}
-use lib.ListN.{length-set}
 use Rattle.report.specs.Texts.{space, colon, number_with, ending_text, packet_head}
 use Rattle.report.proofs.Rooms.{put_next, byte_next}
 use Rattle.report.proofs.Texts.{head_parts}
@@ -113,15 +111,6 @@ overflow_add-result c =
       w4.ensures.next,
       w4.auto.room,
     )
-
-pub shape_of-room : goal.shape_of-room
-shape_of-room c =
-    let w0 = c.put_with-dst_at in
-    let w1 = c.put_with-ending_at in
-    let w2 = c.put_ending-links_at in
-    let w3 = c.put_with-reroutes_at in
-    let w4 = c.put_with-colon_at in
-    length-set w4.new.room w4.result _ ∙ w4.auto.room ∙ w3.auto.room ∙ w2.auto.room ∙ w1.auto.room ∙ w0.auto.room
 
 pub returns : goal.returns
 unfolding packet_head

@@ -1,7 +1,5 @@
 -- `report::puts::put_with` meets its contract: the byte stands behind the number's digits, and the room has one byte more than they take.
-use mathlib.Core.Path.{◌∙◌}
 use native.Mathlib.Omega.{arith}
-use lib.ListN.{length-set}
 use Rattle.report.specs.Texts.{decimal, number_with}
 use Rattle.report.proofs.Rooms.{byte_next}
 use Rattle.report.proofs.Texts.{with_length}
@@ -19,9 +17,6 @@ pub overflow_add-result : goal.overflow_add-result
 overflow_add-result c =
     let p = c.put_number-next in
     omega (arith, p.ensures.next, with_length c.args.behind c.args.v)
-
-pub shape_of-room : goal.shape_of-room
-shape_of-room c = let p = c.put_number-next in length-set p.new.room p.result _ ∙ p.auto.room
 
 pub returns : goal.returns
 unfolding number_with
