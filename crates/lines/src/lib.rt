@@ -132,9 +132,8 @@ fn put_lines(room: &mut [u8], sheet: &[u8], read: Sheet, from: u32, count: u32) 
     ensures answer { result ≡ fitting_piece sheet.now read (length room.old) from (count - from) }
     ensures room { room.new ≡ put room.old 0 (fitting_text sheet.now read (length room.old) from (count - from)) }
 {
-    let mut next = from;
     let mut end: usize = 0;
-    while next < count {
+    for next in from..count {
         let line = line_at(room, end, sheet, read, next);
         if line.refusal != 0 {
             return Piece {
@@ -144,11 +143,10 @@ fn put_lines(room: &mut [u8], sheet: &[u8], read: Sheet, from: u32, count: u32) 
             };
         }
         end = line.end;
-        next += 1;
     }
     Piece {
         refusal: 0,
-        next,
+        next: count,
         end,
     }
 }

@@ -6,8 +6,5 @@ use Rattle.lines.proofs.line_count.Goals as goal
 pub returns-then-read-ne0 : goal.returns-then-read-ne0
 returns-then-read-ne0 c = omega (arith, count_refused c.args.read c.if-read-ne0.true)
 
-pub overflow_add-result : goal.overflow_add-result
-overflow_add-result c = omega (arith, c.requires c.if-read-ne0.false)
-
 pub returns : goal.returns
 returns c = omega (arith, count_accepted c.args.read c.if-read-ne0.false)
