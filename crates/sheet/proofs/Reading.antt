@@ -3,7 +3,8 @@
 use mathlib.Core.Path.{◌≡◌, refl, sym, ◌∙◌, ap}
 use mathlib.Core.Bool.{Bool, true, false}
 use mathlib.Core.List.{List}
-use Prim.Native.Nat.{ℕ, zero, suc, ◌+◌, ◌-◌, ◌≤◌, ◌<◌}
+use Prim.Native.Nat.{ℕ, zero, suc, ◌+◌, ◌≤◌, ◌<◌}
+use native.Mathlib.Numerals.{add-one}
 use native.Mathlib.Omega.{arith}
 use lib.Dec.{leb}
 use lib.ListN.{length}
@@ -136,13 +137,10 @@ pub times_none : (f : Format) (s : List ℕ) (at : ℕ) → Value 0 at ≡ read 
 unfolding times
 times_none f s at = sym (read_done 0 s at)
 
-pub times_more : (f : Format) (s : List ℕ) (at left v next : ℕ) → 0 < left → read f s at ≡ Value v next
-    → read (times left f) s at ≡ read (times (left - 1) f) s next
+pub times_more : (f : Format) (s : List ℕ) (at left more v next : ℕ) → left ≡ more + 1 → read f s at ≡ Value v next
+    → read (times left f) s at ≡ read (times more f) s next
 unfolding times
-times_more f s at zero v next h e = absurd (omega arith)
-times_more f s at (suc left) v next h e =
-    let q : left ≡ suc left - 1 = omega arith in
-    then_value f (λ x. times left f) s at v next e ∙ ap (λ (n : ℕ). read (times n f) s next) q
+times_more f s at left more v next h e = rw (h, add-one more) (then_value f (λ x. times more f) s at v next e)
 
 pub times_stop : (f : Format) (s : List ℕ) (at left number place : ℕ) → 0 < left → read f s at ≡ Refused number place
     → read (times left f) s at ≡ Refused number place

@@ -32,14 +32,12 @@ fn read_codes(sheet: &[u8], at: usize, count: u32) -> Field
 {
     let known = known_codes(sheet, at, count);
     let mut next = at + known;
-    let mut left = count - known as u32;
-    while 0 < left {
+    for _ in known..count as usize {
         let code = read_code(sheet, next);
         let Field::Value(_, behind) = code else {
             return code;
         };
         next = behind;
-        left -= 1;
     }
     Field::Value(0, next)
 }
@@ -70,14 +68,12 @@ fn read_packets(sheet: &[u8], at: usize, limit: u32, count: u32) -> Field
     ensures { result ≡ read (packets limit count) sheet.now at }
 {
     let mut next = at;
-    let mut left = count;
-    while 0 < left {
+    for _ in 0..count {
         let packet = read_packet(sheet, next, limit);
         let Field::Value(_, behind) = packet else {
             return packet;
         };
         next = behind;
-        left -= 1;
     }
     Field::Value(0, next)
 }

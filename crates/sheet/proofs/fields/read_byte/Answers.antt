@@ -8,9 +8,6 @@ use Rattle.sheet.proofs.fields.read_byte.Goals as goal
 pub returns-then-sheet-at : goal.returns-then-sheet-at
 returns-then-sheet-at c = sym (any_cut c.args.sheet.now 1 c.args.at (omega arith))
 
-pub overflow_cast-result-2 : goal.overflow_cast-result-2
-overflow_cast-result-2 c = omega (arith, c.shared_slice_known-1.given c.args.at)
-
 pub returns : goal.returns
 returns c =
     let a = c.args in

@@ -31,9 +31,6 @@ returns-then-not-is_known c =
     let r = c.is_known in
     wrong a.sheet.now a.at (omega arith) r.result r.ensures c.if-not-is_known.true
 
-pub overflow_cast-result-2 : goal.overflow_cast-result-2
-overflow_cast-result-2 c = omega (arith, c.shared_slice_known-2-1.given c.args.at)
-
 pub returns : goal.returns
 returns c =
     let a = c.args in

@@ -5,13 +5,6 @@ use native.Mathlib.Omega.{arith}
 use Rattle.sheet.proofs.Codes.{codes_ahead}
 use Rattle.sheet.proofs.sections.known_codes.Goals as goal
 
-pub returns-then-sheet-at : goal.returns-then-sheet-at
-returns-then-sheet-at c =
-    let a = c.args in
-    let e : a.count - 0 ≡ a.count = omega arith in
-    let f : a.at + 0 ≡ a.at = omega arith in
-    (omega arith, omega arith, rw (e, f))
-
 pub returns : goal.returns
 returns c =
     let a = c.args in

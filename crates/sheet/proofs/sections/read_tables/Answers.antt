@@ -3,14 +3,9 @@ use mathlib.Core.Path.{sym, ◌∙◌}
 use native.Mathlib.Omega.{arith}
 use Rattle.ports.specs.Codes.{table_length}
 use Rattle.hall.proofs.Growth.{valid_servers}
-use Rattle.ports.proofs.Parts.{product_fits}
 use Rattle.sheet.specs.Sheets.{tables_of}
 use Rattle.sheet.proofs.Reading.{read_done, then_value, then_refused, next_within}
 use Rattle.sheet.proofs.sections.read_tables.Goals as goal
-
-pub overflow_mul-servers : goal.overflow_mul-servers
-overflow_mul-servers c =
-    omega (arith, product_fits c.servers_of-servers.result c.args.h.k (omega arith) (omega arith))
 
 pub returns-in_default : goal.returns-in_default
 unfolding tables_of table_length
