@@ -49,7 +49,7 @@ fn codes_place(sheet: &[u8]) -> usize
 }
 
 // As many bytes as the second count says, behind it; none where they are not there.
-#[tactic(auto, using(crate::proofs::Parts::count_read, crate::proofs::Parts::codes_short))]
+#[tactic(auto, using(crate::proofs::Parts::count_read, crate::proofs::Parts::codes_short, sheet::proofs::Places::codes_behind))]
 pub fn codes_part(sheet: &[u8]) -> &[u8]
     ensures { result.now ≡ codes_part sheet.now }
 {
@@ -78,6 +78,7 @@ pub fn codes_of(sheet: &[u8]) -> &[u8]
 }
 
 // The fields of packet i by their bytes, for whoever has read the sheet.
+#[tactic(auto, using(crate::proofs::Parts::count_read, crate::proofs::Parts::packet_short, sheet::proofs::Places::codes_behind))]
 pub fn packet_fields(sheet: &[u8], i: u32) -> SheetPacket
     ensures { result ≡ packet_fields sheet.now i }
 {

@@ -2,14 +2,8 @@
 use mathlib.Core.Path.{◌≡◌}
 use Prim.Native.Nat.{◌+◌, ◌-◌}
 use native.Mathlib.Omega.{arith}
-use Rattle.sheet.proofs.Places.{codes_behind}
 use Rattle.sheetparts.proofs.Parts.{count_read, codes_there_lem}
 use Rattle.sheetparts.proofs.codes_part.Goals as goal
-
-pub overflow_sub-place : goal.overflow_sub-place
-overflow_sub-place c =
-    let p = c.codes_place-place.ensures in
-    omega (arith, codes_behind c.args.sheet.now)
 
 pub returns : goal.returns
 returns c =
