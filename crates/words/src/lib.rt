@@ -58,5 +58,8 @@ pub fn put_bytes(room: &mut [u8], at: usize, bytes: &[u8])
     if length - at < bytes.len() {
         return;
     }
-    room[at..at + bytes.len()].copy_from_slice(bytes);
+    // One byte after the other: a copy by the library may call memmove, and the driver's library needs no symbol of another.
+    for (i, byte) in bytes.iter().enumerate() {
+        room[at + i] = *byte;
+    }
 }
