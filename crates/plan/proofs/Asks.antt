@@ -16,7 +16,7 @@ use Rattle.hall.specs.Cells.{t}
 use Rattle.hall.specs.Halls.{places, most_n, top, largest, Sized, capacity, n_fits, k_fits, count_fits, valid, is_full, servers}
 use Rattle.hall.specs.Answers.{size_of, racks_of}
 use Rattle.hall.proofs.Growth.{Valid, valid_known, size_at_lem, sized_below, no_servers, some_servers}
-use Rattle.hall.proofs.Racks.{racks_known, count_most, racks_servers}
+use Rattle.hall.proofs.Racks.{one_is, one_fits, racks_known, count_most, racks_servers}
 use Rattle.plan.specs.Plan.{rank, prefix_of}
 use Rattle.plan.specs.Answers.{fitted, first_fitted, is_fitted, asks_plan, prefix_at, next_prefix, prefix_stated}
 use Rattle.plan.proofs.First.{first_fitted_lem, first_servers}
@@ -103,33 +103,27 @@ module _ (h : Hall) where
   told_fitted u v l = rw (v, lt-ltb u (servers h) l)
 
   -- whether a server is fitted, by the code's cases
-  module _ (u r : ℕ) (e : r ≡ pick (valid h) (servers h) 0) where
-    pub none_fitted : r ≤ u → false ≡ is_fitted h u
-    none_fitted l = cases (valid h)
-        (λ v. let q : r ≡ servers h = e ∙ rw v in rw (v, le-ltb u (servers h) (omega arith)))
-        (λ v. rw v)
+  module _ (u r : ℕ) (e : r ≡ pick (valid h) (servers h) 0) (l : u < r) where
+    pub server_valid : valid h ≡ true
+    server_valid = cases (valid h) (λ v. v) (λ v. let q : r ≡ 0 = e ∙ rw v in absurd (omega arith))
 
-    module _ (l : u < r) where
-      pub server_valid : valid h ≡ true
-      server_valid = cases (valid h) (λ v. v) (λ v. let q : r ≡ 0 = e ∙ rw v in absurd (omega arith))
+    server_fitted : is_fitted h u ≡ fitted h u
+    server_fitted =
+        let q : r ≡ servers h = e ∙ rw server_valid in
+        rw (server_valid, lt-ltb u (servers h) (omega arith))
 
-      server_fitted : is_fitted h u ≡ fitted h u
-      server_fitted =
-          let q : r ≡ servers h = e ∙ rw server_valid in
-          rw (server_valid, lt-ltb u (servers h) (omega arith))
+    -- with k below 2 every server is
+    pub fitted_low : h.k < 2 → true ≡ is_fitted h u
+    unfolding fitted rank count_fits
+    fitted_low q =
+        let z : h.k - 1 ≡ 0 = omega arith in
+        let w : eqb h.count 1 ≡ true = rw (lt-leb 2 h.k q) at (valid_known h server_valid).count_fits in
+        let o = eqb-true h.count 1 w in
+        rw (server_fitted, z, o)
 
-      -- with k below 2 every server is
-      pub fitted_low : h.k < 2 → true ≡ is_fitted h u
-      unfolding fitted rank count_fits
-      fitted_low q =
-          let z : h.k - 1 ≡ 0 = omega arith in
-          let w : eqb h.count 1 ≡ true = rw (lt-leb 2 h.k q) at (valid_known h server_valid).count_fits in
-          let o = eqb-true h.count 1 w in
-          rw (server_fitted, z, o)
-
-      pub fitted_rank : (c : ℕ) → c ≡ rank h.n (h.k - 1) (prefix_of h.n (h.k - 1) u) → ltb c h.count ≡ is_fitted h u
-      unfolding fitted
-      fitted_rank c q = rw (server_fitted, q)
+    pub fitted_rank : (c : ℕ) → c ≡ rank h.n (h.k - 1) (prefix_of h.n (h.k - 1) u) → ltb c h.count ≡ is_fitted h u
+    unfolding fitted
+    fitted_rank c q = rw (server_fitted, q)
 
   -- a hall that there is has a DCell0 of some servers
   pub some_hall : (r : ℕ) → r ≡ size_of h 0 → (r ≡ 0 → ⊥) → valid h ≡ true
@@ -162,3 +156,6 @@ pub ruleset plan_asked = (no_servers, some_servers, refused_hall, refused_low, r
 
 -- the planner's prefix, where it is not refused
 pub ruleset plan_good = (planned_high, planned_low, planned_sized, planned_prefix)
+
+-- t(1) in the code's words, and its bound
+pub ruleset rack_numbers = (one_is, one_fits)

@@ -6,9 +6,9 @@ use native.Mathlib.Nat.{mod-lt, div-add-mod', div-lt_iff_lt-mul, mul-le-mul_righ
 use native.Mathlib.Numerals.{add-one}
 use native.Mathlib.Omega.{arith}
 use mir.Val.{bool_byte}
-use lib.Dec.{eqb, leb, ltb}
+use lib.Dec.{eqb, ltb}
 use lib.Arith.{digits_div}
-use borrow.Author.Tests.{ltb-true, ltb-false, lt-ltb, le-ltb, le-leb, lt-leb, eqb-true, eqb-false}
+use borrow.Author.Tests.{ltb-true, ltb-false, lt-ltb, le-ltb, le-leb, eqb-true, eqb-false}
 use Rattle.combine.specs.Tests.{pick}
 use Rattle.combine.proofs.Tests.{cases, both_ways}
 use Rattle.hall.specs.declared.Hall.{Hall}
@@ -213,11 +213,3 @@ module _ (h : Hall) (u r size : ℕ) (e : r ≡ pick (valid h) (servers h) 0) (l
   pub two_is : (d : ℕ) → d ≡ front h (u / ((size + 1) * size) * ((size + 1) * size)) (size + 1) → d * size ≡ fitted_servers h u
   unfolding t cell servers
   two_is d ed = rw (ed, ez, server_valid h u r e l, le-leb 2 h.k k, lt-ltb u (t h.n h.k) two_below)
-
-pub two_low : (h : Hall) (u : ℕ) → h.k < 2 → 0 ≡ fitted_servers h u
-two_low h u l = rw (lt-leb 2 h.k l) (cases (valid h) (λ e. rw e) (λ e. rw e))
-
-pub two_outside : (h : Hall) (u r : ℕ) → r ≡ pick (valid h) (servers h) 0 → r ≤ u → 0 ≡ fitted_servers h u
-two_outside h u r e l = cases (valid h)
-    (λ v. let q : r ≡ servers h = e ∙ rw v in rw (v, le-ltb u (servers h) (omega arith)) (cases (leb 2 h.k) (λ k. rw k) (λ k. rw k)))
-    (λ v. rw v)

@@ -134,6 +134,7 @@ fn first_fitted(n: u32, k: u32, count: u32) -> bool
 }
 
 // The servers of so many DCell1s.
+#[tactic(auto, using(crate::proofs::Asks::rack_numbers))]
 fn servers_in(n: u32, count: u32) -> u32
     requires { (n ≤ most_n) × (count * t n 1 ≤ largest) }
     ensures { result ≡ count * t n 1 }

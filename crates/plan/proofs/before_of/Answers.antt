@@ -21,12 +21,6 @@ first g r q i p z k = rw z (sym (before_first g r p q k))
 pub returns-then-i-eq0 : goal.returns-then-i-eq0
 returns-then-i-eq0 c = let a = c.args in first a.g a.r a.q a.i (omega arith) (omega arith) (omega arith)
 
-pub overflow_mul-result : goal.overflow_mul-result
-overflow_mul-result c = let a = c.args in let h = top a.g a.r a.q a.i (omega arith) (omega arith) (omega arith) (omega arith) in search rules
-
-pub overflow_add-result : goal.overflow_add-result
-overflow_add-result c = let a = c.args in let h = top a.g a.r a.q a.i (omega arith) (omega arith) (omega arith) (omega arith) in search rules
-
 pub overflow_add-result-then-q-g : goal.overflow_add-result-then-q-g
 overflow_add-result-then-q-g c = let a = c.args in let h = top a.g a.r a.q a.i (omega arith) (omega arith) (omega arith) (omega arith) in search rules
 

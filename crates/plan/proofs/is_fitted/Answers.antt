@@ -27,6 +27,3 @@ returns-then-first_fitted c =
 
 pub ranks_below-requires : goal.ranks_below-requires
 ranks_below-requires c = known (goal.at.ranks_below-requires c).Else-size_of-eq0
-
-pub returns : goal.returns
-returns c = c.ranks_below.ensures

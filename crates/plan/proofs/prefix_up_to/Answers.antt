@@ -1,5 +1,5 @@
 -- `plan::prefix_up_to` meets its contract: the entries, with what is left to fill, stay the whole.
-use mathlib.Core.Path.{◌≡◌, refl, ◌∙◌, ap}
+use mathlib.Core.Path.{◌≡◌, ◌∙◌, ap}
 use mathlib.Core.List.{List}
 use Prim.Native.Nat.{ℕ, zero, suc, ◌+◌, ◌*◌, ◌-◌, ◌≤◌, ◌<◌}
 use native.Mathlib.Omega.{arith}
@@ -14,7 +14,7 @@ use Rattle.plan.specs.Answers.{prefix_at}
 use Rattle.hall.proofs.Racks.{racks_known}
 use Rattle.plan.proofs.Asks.{sized_known}
 use Rattle.plan.proofs.Filled.{filled, filled_all}
-use Rattle.hall.proofs.Racks.{fit, one_fits, one_is}
+use Rattle.hall.proofs.Racks.{fit, one_is}
 use Rattle.plan.proofs.prefix_up_to.Goals as goal
 
 -- the DCell1s of a sub-cell, as the code asks for them
@@ -45,35 +45,11 @@ turn n m j g r low s l z eg er =
     let f = fit n (m + 1) (j - 1) (omega arith) s (omega arith) in
     rw (eg, racks_at n m j r low s l er) (f.r_pos, omega (arith, f.g_fits))
 
-pub overflow_add-g : goal.overflow_add-g
-overflow_add-g c = omega (arith, c.requires.sized.n_high)
-
-pub overflow_mul-g : goal.overflow_mul-g
-overflow_mul-g c = omega (arith, one_fits c.args.n c.requires.sized.n_high)
-
-pub overflow_add-g-2 : goal.overflow_add-g-2
-overflow_add-g-2 c = omega (arith, one_fits c.args.n c.requires.sized.n_high)
-
-pub loop-j-init : goal.loop-j-init
-loop-j-init c = record { four = refl; whole = refl }
-
-pub overflow_add-at : goal.overflow_add-at
-overflow_add-at c = omega (arith, c.requires.sized.k_high)
-
-pub overflow_cast-at : goal.overflow_cast-at
-overflow_cast-at c = omega (arith, c.requires.sized.k_high)
-
 pub sub_cell-requires : goal.sub_cell-requires
 sub_cell-requires c =
     let a = c.args in
     let l = c.loop-j in
     turn a.n a.m l.j _ _ c.requires.low c.requires.sized (omega arith) (omega arith) (ap (λ (v : ℕ). v + 1) (one_is a.n)) c.racks_of-r.ensures
-
-pub offset_bounds-entries-at : goal.offset_bounds-entries-at
-offset_bounds-entries-at c = omega (arith, c.requires.sized.k_high)
-
-pub bounds-entries-at : goal.bounds-entries-at
-bounds-entries-at c = let v = c.loop-j.invariant in omega (arith, v.four, c.requires.sized.k_high)
 
 pub sub_count-d-requires : goal.sub_count-d-requires
 sub_count-d-requires c =

@@ -8,7 +8,7 @@ use Rattle.hall.specs.Cells.{t, cell, sub}
 use Rattle.hall.proofs.Cells.{cell_up, cell_sub}
 use Rattle.hall.specs.Halls.{largest, Sized, racks}
 use Rattle.plan.specs.Plan.{before, rank, prefix_of}
-use Rattle.hall.proofs.Racks.{Fit, fit, one_fits}
+use Rattle.hall.proofs.Racks.{Fit, fit}
 use Rattle.plan.proofs.Sizes.{sub_racks, rank_below}
 use Rattle.plan.proofs.rank_of.Invariants.{Made}
 use Rattle.plan.proofs.rank_of.Goals.{In-loop-j}
@@ -53,21 +53,6 @@ at_turn c =
     let l = c.loop-j in
     turn a.n a.m a.uid _ l.s l.cell l.r l.c l._j c.requires.0 c.requires.1 l.invariant (omega arith)
 
-pub overflow_add-g : goal.overflow_add-g
-overflow_add-g c = omega (arith, c.requires.1.n_high)
-
-pub overflow_mul-g : goal.overflow_mul-g
-overflow_mul-g c = omega (arith, one_fits c.args.n c.requires.1.n_high)
-
-pub overflow_add-g-2 : goal.overflow_add-g-2
-overflow_add-g-2 c = omega (arith, one_fits c.args.n c.requires.1.n_high)
-
-pub overflow_add-s : goal.overflow_add-s
-overflow_add-s c = omega (arith, c.requires.1.n_high)
-
-pub overflow_mul-s : goal.overflow_mul-s
-overflow_mul-s c = omega (arith, one_fits c.args.n c.requires.1.n_high)
-
 pub loop-j-init : goal.loop-j-init
 loop-j-init c = begin c.args.n c.args.m c.args.uid _ _ refl refl
 
@@ -99,9 +84,3 @@ loop-j-preserved c =
     let a = c.args in
     let l = c.loop-j in
     again a.n a.m a.uid _ l.s l.cell l.r l.c l._j l.invariant c.before_of-c.result c.before_of-c.ensures
-
-pub returns : goal.returns
-returns c =
-    let l = c.loop-j in
-    let e : l._j ≡ c.args.m = omega arith in
-    rw (← e) l.invariant.ranked

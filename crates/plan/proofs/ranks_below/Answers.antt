@@ -1,11 +1,8 @@
 -- `plan::ranks_below` meets its contract: a server is fitted where the rank of its DCell1 is below the count.
 use native.Mathlib.Omega.{arith}
 use Rattle.hall.proofs.Growth.{valid_known, sized_below}
-use Rattle.plan.proofs.Asks.{none_fitted, fitted_low, fitted_rank}
+use Rattle.plan.proofs.Asks.{fitted_low, fitted_rank}
 use Rattle.plan.proofs.ranks_below.Goals as goal
-
-pub returns-then-servers_of-uid : goal.returns-then-servers_of-uid
-returns-then-servers_of-uid c = none_fitted _ _ _ c.servers_of.ensures (omega arith)
 
 pub returns-then-h-lt2 : goal.returns-then-h-lt2
 returns-then-h-lt2 c = fitted_low c.args.h c.args.uid _ c.servers_of.ensures (omega arith) (omega arith)

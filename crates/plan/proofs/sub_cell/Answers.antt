@@ -1,14 +1,11 @@
 -- `plan::sub_cell` meets its contract: the three phases of the planner are the three branches.
 use mathlib.Core.Path.{sym}
 use native.Mathlib.Omega.{arith}
-use Rattle.plan.proofs.Index.{low, mid, high, two}
+use Rattle.plan.proofs.Index.{low, mid, high}
 use Rattle.plan.proofs.sub_cell.Goals as goal
 
 pub returns-then-c-g : goal.returns-then-c-g
 returns-then-c-g c = let a = c.args in sym (low a.g a.r (omega arith) a.c (omega arith)).0
-
-pub nonzero_div-result : goal.nonzero_div-result
-nonzero_div-result c = let a = c.args in two a.g a.r a.c (omega arith) (omega arith)
 
 pub returns-then-c-g-2 : goal.returns-then-c-g-2
 returns-then-c-g-2 c = let a = c.args in sym (mid a.g a.r (omega arith) a.c (omega arith) (omega arith)).0
