@@ -18,9 +18,8 @@ use Rattle.hall.specs.Halls.{places, valid, servers, asks_hall, asks_uid}
 use Rattle.hall.specs.declared.refusals.Refusal.{Refusal}
 use Rattle.hall.specs.Refusals.{refusal, refusal_in, in_order, bad_hall, bad_length, bad_uid, bad_code}
 use Rattle.hall.specs.Answers.{size_of}
-use Rattle.hall.proofs.Stated.{number_not_zero}
 use Rattle.hall.proofs.Asks.{refusal_in_order, unrefused_hold}
-use Rattle.hall.proofs.Growth.{valid_known, valid_pos, valid_size, valid_servers, some_servers, size_of_lem}
+use Rattle.hall.proofs.Growth.{valid_known, valid_pos, valid_size, valid_servers, no_servers, some_servers, size_of_lem}
 use Rattle.ports.specs.Codes.{largest_table, all_known, first_unknown, table_length, cell_length, run, part}
 use Rattle.ports.specs.Answers.{CheckAnswer, asks_table, check_of, part_refusal, part_of}
 use Rattle.ports.proofs.Tables.{all_known_lem, some_unknown}
@@ -93,11 +92,7 @@ table_fits h v =
     let b : h.k + 1 ≤ places = omega arith in
     omega (arith, mul-le-mul a b)
 
--- the number that an answer tells is 0 where nothing is refused, and there alone
-refused_told : (r : Result (Unit {0}) Refusal) → true ≡ is_err r → refusal_in r ≡ 0 → ⊥
-refused_told (Ok u) e z = true≢false e
-refused_told (Err a) e z = number_not_zero a z
-
+-- where nothing is refused, the number that is told is 0
 taken_told : (r : Result (Unit {0}) Refusal) → false ≡ is_err r → refusal_in r ≡ 0
 taken_told (Ok u) e = refl
 taken_told (Err a) e = absurd (true≢false (sym e))
@@ -145,28 +140,28 @@ module _ (h : Hall) (table : List ℕ) where
     pub part_good : valid h ≡ true → length table ≡ table_length h → u < servers h → 0 ≡ part_refusal h table u
     part_good v l b = rw (part_asks, v, eq-eqb (length table) (table_length h) l, lt-ltb u (servers h) b)
 
-    -- a part that is refused is empty
-    module _ (r : Result (Unit {0}) Refusal) (e : refusal_in r ≡ part_refusal h table u) where
-      pub part_empty : true ≡ is_err r → [] ≡ part_of h table u
-      part_empty z = rw (← e, ne_eqb (refusal_in r) 0 (refused_told r z))
+    -- where nothing is refused, the part is the run for the DCell(b), between two places of the table
+    module _ (r : Result (Unit {0}) Refusal) (e : refusal_in r ≡ part_refusal h table u) (z : false ≡ is_err r) (count : ℕ) (q : count ≡ size_of h h.b) where
+      part_taken : part_refusal h table u ≡ 0
+      part_taken = sym e ∙ taken_told r z
 
-      -- one that is not is the run for the DCell(b), between two places of the table
-      module _ (z : false ≡ is_err r) (count : ℕ) (q : count ≡ size_of h h.b) where
-        part_taken : part_refusal h table u ≡ 0
-        part_taken = sym e ∙ taken_told r z
+      part_sound : Sound h table u
+      part_sound = sound h table u part_taken
 
-        part_sound : Sound h table u
-        part_sound = sound h table u part_taken
+      part_size : count ≡ t h.n h.b
+      part_size = let v = part_sound.is_valid in size_of_lem h h.b count v (valid_known h v).b_low q
 
-        part_size : count ≡ t h.n h.b
-        part_size = let v = part_sound.is_valid in size_of_lem h h.b count v (valid_known h v).b_low q
+      pub part_counts : 0 < count
+      part_counts = rw part_size (valid_pos h (valid_known h part_sound.is_valid) h.b)
 
-        pub part_counts : 0 < count
-        part_counts = rw part_size (valid_pos h (valid_known h part_sound.is_valid) h.b)
+      module _ (bytes : ℕ) (wide : bytes ≡ count * (h.k + 1)) where
+        pub part_within : u / count * bytes + bytes ≤ length table
+        part_within = taken_within h table u part_sound count bytes part_size wide
 
-        module _ (bytes : ℕ) (wide : bytes ≡ count * (h.k + 1)) where
-          pub part_within : u / count * bytes + bytes ≤ length table
-          part_within = taken_within h table u part_sound count bytes part_size wide
+        pub part_is : take (u / count * bytes + bytes - u / count * bytes) (drop (u / count * bytes) table) ≡ part_of h table u
+        part_is = taken_is h table u part_sound count bytes part_size wide ∙ rw part_taken
 
-          pub part_is : take (u / count * bytes + bytes - u / count * bytes) (drop (u / count * bytes) table) ≡ part_of h table u
-          part_is = taken_is h table u part_sound count bytes part_size wide ∙ rw part_taken
+-- what is refused of a hall table, and of its part for a server, ask by ask, from the servers and the bytes that the code has
+pub ruleset table_asked = (no_servers, some_servers, bytes_are, check_hall, check_length, check_code, check_good)
+
+pub ruleset part_asked = (no_servers, some_servers, valid_servers, bytes_are, part_hall, part_length, part_uid, part_good)

@@ -3,11 +3,11 @@
 use mathlib.Core.Path.{◌≡◌, refl, sym, ◌∙◌, ap}
 use mathlib.Core.Bool.{true, false}
 use mathlib.Core.List.{List, [], ◌∷◌, ◌++◌}
-use Prim.Native.Nat.{ℕ, zero, suc, ◌+◌, ◌-◌, ◌*◌, ◌≤◌, ◌<◌, max}
+use Prim.Native.Nat.{ℕ, zero, suc, ◌+◌, ◌*◌, ◌≤◌, ◌<◌, max}
 use native.Mathlib.Numerals.{add-one}
 use native.Mathlib.Omega.{arith}
 use lib.Dec.{leb}
-use lib.ListN.{length, get_or, drop, length-drop, length-append, drop_of_length-le}
+use lib.ListN.{length, get_or, drop, drop_of_length-le}
 use lib.Seq.{drop-cons, drop-drop, drop-append_seam}
 use borrow.Author.Tests.{eqb-true, eq-eqb, leb-true, leb-false, le-leb, lt-leb}
 use Rattle.std.specs.List.{fold}
@@ -42,9 +42,6 @@ first_within [] = omega arith
 first_within (code ∷ codes) = cases (known code) (λ e. rw e (omega (arith, first_within codes))) (λ e. rw e (omega arith))
 
 -- the first unknown code of a table, from each place that is reached: a known code is passed, an unknown one is the first
-pub unknown_start : (table : List ℕ) → 0 + first_unknown (drop 0 table) ≡ first_unknown table
-unknown_start table = omega arith
-
 pub unknown_end : (table : List ℕ) (i : ℕ) → length table ≤ i → i + first_unknown (drop i table) ≡ i
 unfolding first_unknown
 unknown_end table i h = rw (drop_of_length-le table h) (omega arith)
@@ -66,18 +63,14 @@ unknown_past (code ∷ codes) rest e =
     let w = unknown_past codes rest (both_right (known code) (all_known codes) e) in
     rw k (omega (arith, w))
 
--- a block, where what stands before it is passed
-module _ (table block rest : List ℕ) (from : ℕ) (left : drop from table ≡ block ++ rest) (first : from + first_unknown (drop from table) ≡ first_unknown table) where
-  pub block_fits : from + length block ≤ length table
-  block_fits =
-      let l : length table - from ≡ length block + length rest = sym (length-drop from table) ∙ ap length left ∙ length-append block rest in
-      omega (arith, first_within table)
-
+-- and a block of the table, where what stands before it is passed
+module _ (table block rest : List ℕ) (from : ℕ) (left : drop from table ≡ block ++ rest) where
   pub block_left : drop (from + length block) table ≡ rest
   block_left = sym (drop-drop (length block) from table) ∙ ap (drop (length block)) left ∙ drop-append_seam block rest
 
-  pub block_known : all_known block ≡ true → from + length block + first_unknown (drop (from + length block) table) ≡ first_unknown table
-  block_known e =
+  pub block_known : from + first_unknown (drop from table) ≡ first_unknown table → all_known block ≡ true
+      → from + length block + first_unknown (drop (from + length block) table) ≡ first_unknown table
+  block_known f e =
       let p : first_unknown (drop from table) ≡ length block + first_unknown rest = ap first_unknown left ∙ unknown_past block rest e in
       rw block_left (omega (arith, p))
 

@@ -17,6 +17,7 @@ use hall::refusals::{Fault, Refusal};
 const BLOCK: usize = 256;
 
 // Whether a port is up: of a server by its uid in a hall table, by its place in the table of a DCell. A port above k is not.
+#[tactic(auto, unfolding(crate::specs::Codes::up, crate::specs::Codes::code_of))]
 pub fn is_up(h: Hall, table: &[u8], server: u32, port: u32) -> bool
     ensures { result ≡ up h table.now server port }
 {
@@ -32,6 +33,7 @@ pub fn is_up(h: Hall, table: &[u8], server: u32, port: u32) -> bool
 }
 
 // Whether a code is known.
+#[tactic(auto, unfolding(crate::specs::Codes::known))]
 pub fn is_known(code: u8) -> bool
     ensures { result ≡ known code }
 {
@@ -80,6 +82,7 @@ fn bytes_of(servers: u32, k: u32) -> usize
 }
 
 // Whether a hall table has its length and known codes alone; with a code that is unknown the place of the first is told, else place 0.
+#[tactic(auto, using(crate::proofs::Parts::table_asked))]
 pub fn check_table(h: Hall, table: &[u8]) -> Result<(), Fault>
     ensures { check_stated result ≡ check_of h table.now }
 {
@@ -107,6 +110,7 @@ pub fn check_table(h: Hall, table: &[u8]) -> Result<(), Fault>
 }
 
 // Why a hall table's part for a server is refused.
+#[tactic(auto, using(crate::proofs::Parts::part_asked))]
 pub fn part_refusal(h: Hall, table: &[u8], uid: u32) -> Result<(), Refusal>
     ensures { refusal_in result ≡ part_refusal h table.now uid }
 {

@@ -5,9 +5,6 @@ use lib.ListN.{length}
 use Rattle.ports.proofs.Tables.{first_within, unknown_next, unknown_here, unknown_end}
 use Rattle.ports.proofs.first_unknown.Goals as goal
 
-pub loop-i-init : goal.loop-i-init
-loop-i-init c = c.known_blocks-from.ensures
-
 pub returns-then-not-is_known : goal.returns-then-not-is_known
 returns-then-not-is_known c =
     let k = c.is_known in

@@ -1,9 +1,8 @@
 -- `ports::part_of` meets its contract: where nothing is refused, the run for the DCell(b) lies within the table.
 use Prim.Native.Nat.{◌+◌, ◌*◌, ◌/◌, ◌≤◌}
-use native.Mathlib.Nat.{div-le_self}
 use native.Mathlib.Omega.{arith}
 use lib.ListN.{length}
-use Rattle.ports.proofs.Parts.{part_empty, part_counts, part_within, part_is}
+use Rattle.ports.proofs.Parts.{part_counts, part_within, part_is}
 use Rattle.ports.proofs.part_of.Goals.{After-bytes_of-bytes}
 use Rattle.ports.proofs.part_of.Goals as goal
 
@@ -11,14 +10,8 @@ use Rattle.ports.proofs.part_of.Goals as goal
 within : (c : After-bytes_of-bytes) → let w = c.bytes_of-bytes.result in c.args.uid / c.size_of-count.result * w + w ≤ length c.args.table.now
 within c = part_within _ _ _ _ c.part_refusal.ensures c.if-is_err.ensures.value _ c.size_of-count.ensures _ c.bytes_of-bytes.ensures
 
-pub returns-then-is_err : goal.returns-then-is_err
-returns-then-is_err c = part_empty _ _ _ _ c.part_refusal.ensures c.if-is_err.ensures.value
-
 pub nonzero_div-from : goal.nonzero_div-from
 nonzero_div-from c = part_counts _ _ _ _ c.part_refusal.ensures c.if-is_err.ensures.value _ c.size_of-count.ensures
-
-pub overflow_cast-from : goal.overflow_cast-from
-overflow_cast-from c = omega (arith, div-le_self c.args.uid c.size_of-count.result)
 
 pub overflow_mul-from : goal.overflow_mul-from
 overflow_mul-from c = omega (arith, within (goal.at.overflow_mul-from c).After-bytes_of-bytes)
