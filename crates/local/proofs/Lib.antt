@@ -5,6 +5,7 @@ pub mod Rounds
 pub mod Lowest
 pub mod Linked
 pub mod Answers
+pub mod Stated
 pub mod Distance
 pub mod Hops
 pub mod Direct

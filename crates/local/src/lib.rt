@@ -2,9 +2,9 @@
 
 #![tactic(auto)]
 
-ghost use Rattle.std.specs.Prelude.{◌≡◌, true, false, [], ◌∷◌, ◌+◌, ◌*◌, ◌≤◌, ◌<◌, length, replicate};
+ghost use Rattle.std.specs.Prelude.{◌≡◌, true, false, [], ◌∷◌, ◌+◌, ◌*◌, ◌≤◌, ◌<◌, length};
 ghost use Rattle.combine.specs.Tests.{pick, both, any_below};
-ghost use Rattle.hall.specs.Refusals.{refusal};
+ghost use Rattle.hall.specs.Refusals.{refusal, refusal_in};
 ghost use Rattle.hall.specs.Cells.{neighbour};
 ghost use Rattle.hall.specs.Halls.{most_n, valid, servers, asks_hall, asks_uid};
 ghost use Rattle.ports.specs.Codes.{up};
@@ -12,13 +12,13 @@ ghost use Rattle.ports.specs.Links.{on_switch, both_up, switch_has};
 ghost use Rattle.ports.specs.Answers.{asks_cell};
 ghost use Rattle.plan.specs.Answers.{fitted};
 ghost use Rattle.search.specs.Rounds.{new, round};
-ghost use Rattle.local.specs.Local.{places, none, cell_size, linked, record_from, hop};
+ghost use Rattle.local.specs.Local.{none, cell_size, linked, record_from, hop};
 ghost use Rattle.local.specs.Lowest.{lowest_from};
 ghost use Rattle.local.specs.Looks.{reached_by, on_link, met_by, beside_by, across_by, gives_by};
-ghost use Rattle.local.specs.Answers.{distances_of, next_hop_of};
+ghost use Rattle.local.specs.Answers.{distances_of, distances_stated, next_hop_of, next_hop_stated};
 
 use hall::Hall;
-use hall::refusals::{BAD_HALL, BAD_LENGTH, BAD_UID};
+use hall::refusals::Refusal;
 
 // The distance that says that there is none.
 pub const NONE: u8 = 255;
@@ -26,18 +26,9 @@ pub const NONE: u8 = 255;
 // The distances from one server, kept with it: the place of a server in the cell is its uid less the cell's first.
 #[derive(Clone, Copy)]
 pub struct Distances {
-    pub refusal: u32,
     pub origin: u32,
     pub count: u32,
     pub distance: [u8; 72],
-}
-
-// The next hop's uid; found is 0 where there is none, else 1.
-#[derive(Clone, Copy)]
-pub struct NextHop {
-    pub refusal: u32,
-    pub found: u32,
-    pub uid: u32,
 }
 
 // The switches of a DCell(b).
@@ -51,27 +42,27 @@ fn switches(h: Hall) -> u32
     h.n + 1
 }
 
-// The refusal for a hall of so many servers, the table of a DCell(b) and a uid, 0 for none.
-fn refused_among(h: Hall, size: u32, table: &[u8], uid: u32) -> u32
+// What is refused of a hall of so many servers, the table of a DCell(b) and a uid.
+fn refused_among(h: Hall, size: u32, table: &[u8], uid: u32) -> Result<(), Refusal>
     requires { size ≡ pick (valid h) (servers h) 0 }
-    ensures { result ≡ refusal (asks_hall h ∷ asks_cell h table.now ∷ asks_uid h uid ∷ []) }
+    ensures { refusal_in result ≡ refusal (asks_hall h ∷ asks_cell h table.now ∷ asks_uid h uid ∷ []) }
 {
     if size == 0 {
-        return BAD_HALL;
+        return Err(Refusal::BadHall);
     }
     let bytes = (hall::size_of(h, h.b) as usize) * ((h.k as usize) + 1);
     if table.len() != bytes {
-        return BAD_LENGTH;
+        return Err(Refusal::BadLength);
     }
     if size <= uid {
-        return BAD_UID;
+        return Err(Refusal::BadUid);
     }
-    0
+    Ok(())
 }
 
-// The refusal for a hall, the table of a DCell(b) and a uid, 0 for none.
-fn refused(h: Hall, table: &[u8], uid: u32) -> u32
-    ensures { result ≡ refusal (asks_hall h ∷ asks_cell h table.now ∷ asks_uid h uid ∷ []) }
+// What is refused of a hall, the table of a DCell(b) and a uid.
+fn refused(h: Hall, table: &[u8], uid: u32) -> Result<(), Refusal>
+    ensures { refusal_in result ≡ refusal (asks_hall h ∷ asks_cell h table.now ∷ asks_uid h uid ∷ []) }
 {
     refused_among(h, hall::servers_of(h), table, uid)
 }
@@ -194,20 +185,6 @@ fn one_round(h: Hall, table: &[u8], d: &mut [u8; 72], r: u8) -> bool
     any
 }
 
-// No distance to any place.
-fn unreached() -> [u8; 72]
-    ensures { result ≡ replicate places none }
-{
-    [NONE; 72]
-}
-
-// What a refusal tells of distances.
-fn untold() -> [u8; 72]
-    ensures { result ≡ replicate places 0 }
-{
-    [0; 72]
-}
-
 // The distance of each place from the place o.
 #[tactic(auto, using(crate::proofs::Sizes::size_within, crate::proofs::Sizes::count_within))]
 fn distances_from(h: Hall, table: &[u8], o: u32) -> [u8; 72]
@@ -215,7 +192,7 @@ fn distances_from(h: Hall, table: &[u8], o: u32) -> [u8; 72]
     ensures { result ≡ record_from h table.now o }
 {
     let count = hall::size_of(h, h.b);
-    let mut d = unreached();
+    let mut d = [NONE; 72];
     let at = o as usize;
     d[at] = 0;
     for r in 0..count as u8 {
@@ -241,25 +218,16 @@ fn own_codes(h: Hall, uid: u32, table: &[u8]) -> &[u8]
 }
 
 // The distances from a server to each server of its DCell(b), over the table of that cell.
-pub fn distances_of(h: Hall, uid: u32, table: &[u8]) -> Distances
-    ensures { result ≡ distances_of h uid table.now }
+pub fn distances_of(h: Hall, uid: u32, table: &[u8]) -> Result<Distances, Refusal>
+    ensures { distances_stated result ≡ distances_of h uid table.now }
 {
-    let number = refused(h, table, uid);
-    if number != 0 {
-        return Distances {
-            refusal: number,
-            origin: 0,
-            count: 0,
-            distance: untold(),
-        };
-    }
+    refused(h, table, uid)?;
     let count = hall::size_of(h, h.b);
-    Distances {
-        refusal: 0,
+    Ok(Distances {
         origin: uid,
         count,
         distance: distances_from(h, own_codes(h, uid, table), uid % count),
-    }
+    })
 }
 
 // Whether two servers are on one switch.
@@ -291,7 +259,7 @@ fn is_linked(h: Hall, table: &[u8], x: u32, y: u32) -> bool
     both_up(h, table, 1, x, y)
 }
 
-// The lowest server of the switch s that is reached before round r and has its port 0 up, n where there is none.
+// The lowest server of the switch s that is reached before round r and has its port 0 up; n where there is none, as lowest_from has it.
 fn lowest_giving(h: Hall, table: &[u8], d: &[u8; 72], r: u8, s: u32) -> u32
     requires { s * h.n + h.n ≤ 72 }
     ensures { result ≡ lowest_from (gives_by h table.now d.now r s) h.n 0 }
@@ -305,7 +273,7 @@ fn lowest_giving(h: Hall, table: &[u8], d: &[u8; 72], r: u8, s: u32) -> u32
     h.n
 }
 
-// The lowest place on the switch of x that meets it, `count` where there is none.
+// The lowest place on the switch of x that meets it, `count` where there is none, as lowest_from has it.
 #[tactic(auto, using(crate::proofs::Sizes::switch_pos))]
 fn met_beside(h: Hall, table: &[u8], d: &[u8; 72], r: u8, x: u32, count: u32) -> u32
     requires { (valid h ≡ true) × (h.b ≡ 0 → ⊥) × (x < cell_size h) × (count ≡ cell_size h) × (reached_by d.now r x ≡ false) }
@@ -335,7 +303,7 @@ fn met_across(h: Hall, table: &[u8], d: &[u8; 72], r: u8, x: u32, count: u32) ->
     count
 }
 
-// The lowest place that meets x: it is reached before round r, as x is not, and a usable link joins the two. `count` where there is none.
+// The lowest place that meets x: it is reached before round r, as x is not, and a usable link joins the two. `count` where there is none, as lowest_from has it.
 fn lowest_met(h: Hall, table: &[u8], d: &[u8; 72], r: u8, x: u32, count: u32) -> u32
     requires { (valid h ≡ true) × (h.b ≡ 0 → ⊥) × (x < cell_size h) × (count ≡ cell_size h) × (reached_by d.now r x ≡ false) }
     ensures { result ≡ lowest_from (met_by h table.now d.now r x) (cell_size h) 0 }
@@ -345,14 +313,14 @@ fn lowest_met(h: Hall, table: &[u8], d: &[u8; 72], r: u8, x: u32, count: u32) ->
     beside.min(across)
 }
 
-// The place of the next hop from x towards y, which no usable link joins, by a search from y until it meets x; the cell's size where there is none.
+// The place of the next hop from x towards y, which no usable link joins, by a search from y until it meets x; the cell's size where there is none, as hop has it.
 #[tactic(auto, using(crate::proofs::Sizes::size_within, crate::proofs::Sizes::count_within))]
 fn searched_hop(h: Hall, table: &[u8], x: u32, y: u32) -> u32
     requires { (valid h ≡ true) × (x < cell_size h) × (y < cell_size h) × (x ≡ y → ⊥) × (linked h table.now x y ≡ false) × (h.b ≡ 0 → ⊥) }
     ensures { result ≡ hop h table.now x y }
 {
     let count = hall::size_of(h, h.b);
-    let mut d = unreached();
+    let mut d = [NONE; 72];
     let at = y as usize;
     d[at] = 0;
     for round in 0..count as u8 {
@@ -367,7 +335,7 @@ fn searched_hop(h: Hall, table: &[u8], x: u32, y: u32) -> u32
     count
 }
 
-// The place of the next hop from x towards y, the cell's size where there is none: over a usable link y itself, and none else on a lone switch.
+// The place of the next hop from x towards y, the cell's size where there is none, as hop has it: over a usable link y itself, and none else on a lone switch.
 fn hop_place(h: Hall, table: &[u8], x: u32, y: u32) -> u32
     requires { (valid h ≡ true) × (x < cell_size h) × (y < cell_size h) }
     ensures { result ≡ hop h table.now x y }
@@ -384,54 +352,32 @@ fn hop_place(h: Hall, table: &[u8], x: u32, y: u32) -> u32
     searched_hop(h, table, x, y)
 }
 
-// The refusal for a hall, the table of a DCell(b) and two uids, 0 for none.
-fn refused_two(h: Hall, table: &[u8], uid: u32, target: u32) -> u32
-    ensures { result ≡ refusal (asks_hall h ∷ asks_cell h table.now ∷ asks_uid h uid ∷ asks_uid h target ∷ []) }
+// What is refused of a hall, the table of a DCell(b) and two uids.
+fn refused_two(h: Hall, table: &[u8], uid: u32, target: u32) -> Result<(), Refusal>
+    ensures { refusal_in result ≡ refusal (asks_hall h ∷ asks_cell h table.now ∷ asks_uid h uid ∷ asks_uid h target ∷ []) }
 {
     let servers = hall::servers_of(h);
-    let number = refused_among(h, servers, table, uid);
-    if number != 0 {
-        return number;
-    }
+    refused_among(h, servers, table, uid)?;
     if servers <= target {
-        return BAD_UID;
+        return Err(Refusal::BadUid);
     }
-    0
+    Ok(())
 }
 
-// The local next hop from a server towards another of its DCell(b), over the table of that cell.
-pub fn next_hop(h: Hall, uid: u32, target: u32, table: &[u8]) -> NextHop
-    ensures { result ≡ next_hop_of h uid target table.now }
+// The local next hop from a server towards another of its DCell(b), over the table of that cell; none in another cell or out of reach.
+pub fn next_hop(h: Hall, uid: u32, target: u32, table: &[u8]) -> Result<Option<u32>, Refusal>
+    ensures { next_hop_stated result ≡ next_hop_of h uid target table.now }
 {
-    let number = refused_two(h, table, uid, target);
-    if number != 0 {
-        return NextHop {
-            refusal: number,
-            found: 0,
-            uid: 0,
-        };
-    }
+    refused_two(h, table, uid, target)?;
     let count = hall::size_of(h, h.b);
     let cell = uid / count;
     if target / count != cell {
-        return NextHop {
-            refusal: 0,
-            found: 0,
-            uid: 0,
-        };
+        return Ok(None);
     }
     let z = hop_place(h, own_codes(h, uid, table), uid % count, target % count);
     if z < count {
         let next = cell * count + z;
-        return NextHop {
-            refusal: 0,
-            found: 1,
-            uid: next,
-        };
+        return Ok(Some(next));
     }
-    NextHop {
-        refusal: 0,
-        found: 0,
-        uid: 0,
-    }
+    Ok(None)
 }

@@ -1,9 +1,8 @@
 -- `local::distances_from` meets its contract. The loop's invariant: the record holds the marks before round r, and none behind the cell.
-use mathlib.Core.Path.{◌≡◌, ◌∙◌, sym, ap}
-use mathlib.Core.List.{List}
-use Prim.Native.Nat.{ℕ, ◌-◌}
+use mathlib.Core.Path.{◌≡◌, ◌∙◌, sym}
+use Prim.Native.Nat.{◌-◌}
 use native.Mathlib.Omega.{arith}
-use lib.ListN.{set, replicate}
+use lib.ListN.{replicate}
 use Rattle.hall.proofs.Growth.{valid_known}
 use Rattle.search.proofs.Loop.{loop_more}
 use Rattle.local.specs.Local.{places, none, cell_size, linked}
@@ -17,7 +16,7 @@ sized c = cell_size_lem _ _ c.requires.0 c.size_of-count.ensures
 
 pub loop-r-init : goal.loop-r-init
 loop-r-init c =
-    ap (λ (l : List ℕ). set l c.args.o 0) c.unreached-d.ensures ∙ record_start c.args.h c.args.table.now c.args.o (valid_known c.args.h c.requires.0) c.requires.1
+    record_start c.args.h c.args.table.now c.args.o (valid_known c.args.h c.requires.0) c.requires.1
 
 pub one_round-requires : goal.one_round-requires
 one_round-requires c =

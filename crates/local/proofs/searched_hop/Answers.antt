@@ -1,10 +1,9 @@
 -- `local::searched_hop` meets its contract. The loop's invariant: the record holds the marks before round r, none behind the cell, and round r
 -- does not reach x.
-use mathlib.Core.Path.{◌≡◌, ◌∙◌, sym, ap}
-use mathlib.Core.List.{List}
-use Prim.Native.Nat.{ℕ, ◌+◌, ◌-◌}
+use mathlib.Core.Path.{◌≡◌, ◌∙◌, sym}
+use Prim.Native.Nat.{◌+◌, ◌-◌}
 use native.Mathlib.Omega.{arith}
-use lib.ListN.{set, replicate}
+use lib.ListN.{replicate}
 use Rattle.hall.proofs.Growth.{valid_known}
 use Rattle.search.proofs.Loop.{loop_more}
 use Rattle.local.specs.Local.{places, none, cell_size, linked}
@@ -20,7 +19,7 @@ sized c = cell_size_lem _ _ c.requires.0 c.size_of-count.ensures
 pub loop-round-init : goal.loop-round-init
 loop-round-init c =
     let v = valid_known c.args.h c.requires.0 in (
-      ap (λ (l : List ℕ). set l c.args.y 0) c.unreached-d.ensures ∙ record_start c.args.h c.args.table.now c.args.y v c.requires.2,
+      record_start c.args.h c.args.table.now c.args.y v c.requires.2,
       starts_unmet c.args.h c.args.table.now v c.args.x c.args.y c.requires.1 c.requires.2 c.requires.3 c.requires.4,
     )
 
