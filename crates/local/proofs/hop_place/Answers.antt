@@ -10,15 +10,15 @@ use Rattle.local.proofs.hop_place.Goals as goal
 
 pub returns-then-is_linked : goal.returns-then-is_linked
 returns-then-is_linked c =
-    sym (hop_direct c.args.h c.args.table.now (valid_known c.args.h c.requires.0) c.args.x c.args.y c.requires.1 c.requires.2
+    sym (hop_direct _ _ (valid_known _ c.requires.0) _ _ c.requires.1 c.requires.2
     (sym c.is_linked.ensures ∙ c.if-is_linked.true))
 
 pub returns-then-h-eq0 : goal.returns-then-h-eq0
 returns-then-h-eq0 c =
-    sym (hop_lone c.args.h c.args.table.now (valid_known c.args.h c.requires.0) c.args.x c.args.y c.requires.1 c.requires.2 c.if-h-eq0.true
-    (sym c.is_linked.ensures ∙ c.if-is_linked.false) ∙ size_switch c.args.h c.if-h-eq0.true)
+    sym (hop_lone _ _ (valid_known _ c.requires.0) _ _ c.requires.1 c.requires.2 c.if-h-eq0.true
+    (sym c.is_linked.ensures ∙ c.if-is_linked.false) ∙ size_switch _ c.if-h-eq0.true)
 
 pub returns-then-x-y : goal.returns-then-x-y
 returns-then-x-y c =
     cell_size_lem _ _ c.requires.0 c.size_of.ensures
-    ∙ sym (hop_none c.args.h c.args.table.now (valid_known c.args.h c.requires.0) c.args.x c.args.y c.requires.1 c.requires.2 (inl c.if-x-y.true))
+    ∙ sym (hop_none _ _ (valid_known _ c.requires.0) _ _ c.requires.1 c.requires.2 (inl c.if-x-y.true))

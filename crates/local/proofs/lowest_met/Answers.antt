@@ -12,5 +12,5 @@ returns c =
     let a = c.args in
     c.min.ensures
     ∙ lowest_lower (beside_by a.h a.table.now a.d.now a.r a.x) (across_by a.h a.table.now a.d.now a.r a.x) (met_by a.h a.table.now a.d.now a.r a.x) (cell_size a.h)
-    (λ z l. met_either a.h a.table.now (valid_known a.h c.requires.0) c.requires.1 a.x c.requires.2 a.d.now a.r z)
-    c.met_beside-beside.result c.met_across-across.result c.met_beside-beside.ensures c.met_across-across.ensures
+    (λ z l. met_either _ (valid_known _ c.requires.0) c.requires.1 _ c.requires.2 _ _ _ z)
+    _ _ c.met_beside-beside.ensures c.met_across-across.ensures

@@ -2,34 +2,26 @@
 use native.Mathlib.Omega.{arith}
 use Rattle.hall.proofs.Growth.{valid_known}
 use Rattle.local.proofs.Sizes.{size_fits}
-use Rattle.local.proofs.Beside.{switch_low, place_in, across_is, across_in, across_found, across_missing}
+use Rattle.local.proofs.Beside.{place_known, across_is, across_in, across_found, across_missing}
 use Rattle.local.proofs.met_across.Goals as goal
 
 pub neighbour_place-y-requires : goal.neighbour_place-y-requires
-neighbour_place-y-requires c =
-    let v = valid_known c.args.h c.requires.0 in
-    (v.n_high, place_in c.args.h c.args.table.now v c.requires.1 c.args.x c.requires.2, switch_low c.args.h c.args.table.now v c.requires.1 c.args.x c.requires.2)
+neighbour_place-y-requires c = place_known _ (valid_known _ c.requires.0) c.requires.1 _ c.requires.2
 
 pub over_link-requires : goal.over_link-requires
 over_link-requires c =
-    let v = valid_known c.args.h c.requires.0 in
-    let f = c.neighbour_place-y in
-    let is = across_is c.args.h c.args.table.now v c.requires.1 c.args.x c.requires.2 f.result f.ensures in
-    omega (arith, size_fits c.args.h v, across_in c.args.h c.args.table.now v c.requires.1 c.args.x c.requires.2 f.result is)
+    let v = valid_known _ c.requires.0 in
+    let is = across_is _ v c.requires.1 _ c.requires.2 c.neighbour_place-y.ensures in
+    omega (arith, size_fits _ v, across_in _ v c.requires.1 _ c.requires.2 is)
 
 pub returns-then-over_link : goal.returns-then-over_link
 returns-then-over_link c =
-    let v = valid_known c.args.h c.requires.0 in
-    let f = c.neighbour_place-y in
-    let g = c.over_link in
-    let is = across_is c.args.h c.args.table.now v c.requires.1 c.args.x c.requires.2 f.result f.ensures in
-    across_found c.args.h c.args.table.now v c.requires.1 c.args.x c.requires.2 c.args.d.now c.args.r c.args.count c.requires.3 f.result g.result is g.ensures
-    (across_in c.args.h c.args.table.now v c.requires.1 c.args.x c.requires.2 f.result is) c.if-over_link.true
+    let v = valid_known _ c.requires.0 in
+    let is = across_is _ v c.requires.1 _ c.requires.2 c.neighbour_place-y.ensures in
+    across_found _ v c.requires.1 _ c.requires.2 _ _ _ c.requires.3 is c.over_link.ensures (across_in _ v c.requires.1 _ c.requires.2 is) c.if-over_link.true
 
 pub returns : goal.returns
 returns c =
-    let v = valid_known c.args.h c.requires.0 in
-    let f = c.neighbour_place-y in
-    let g = c.over_link in
-    let is = across_is c.args.h c.args.table.now v c.requires.1 c.args.x c.requires.2 f.result f.ensures in
-    across_missing c.args.h c.args.table.now v c.requires.1 c.args.x c.requires.2 c.args.d.now c.args.r c.args.count c.requires.3 f.result g.result is g.ensures c.if-over_link.false
+    let v = valid_known _ c.requires.0 in
+    let is = across_is _ v c.requires.1 _ c.requires.2 c.neighbour_place-y.ensures in
+    across_missing _ v c.requires.1 _ c.requires.2 _ _ _ c.requires.3 is c.over_link.ensures c.if-over_link.false

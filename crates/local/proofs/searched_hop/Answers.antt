@@ -18,68 +18,68 @@ sized c = cell_size_lem _ _ c.requires.0 c.size_of-count.ensures
 
 pub loop-round-init : goal.loop-round-init
 loop-round-init c =
-    let v = valid_known c.args.h c.requires.0 in (
-      record_start c.args.h c.args.table.now c.args.y v c.requires.2,
-      starts_unmet c.args.h c.args.table.now v c.args.x c.args.y c.requires.1 c.requires.2 c.requires.3 c.requires.4,
+    let v = valid_known _ c.requires.0 in (
+      record_start _ _ _ v c.requires.2,
+      starts_unmet _ _ v _ _ c.requires.1 c.requires.2 c.requires.3 c.requires.4,
     )
 
 pub one_round-requires : goal.one_round-requires
 one_round-requires c =
-    let v = valid_known c.args.h c.requires.0 in
+    let v = valid_known _ c.requires.0 in
     let w = c.loop-round in
-    (c.requires.0, omega (arith, sized (goal.at.one_round-requires c).After-size_of-count, size_fits c.args.h v), record_length c.args.h c.args.table.now c.args.y w.round w.d v w.invariant.0)
+    (c.requires.0, omega (arith, sized (goal.at.one_round-requires c).After-size_of-count, size_fits _ v), record_length _ _ _ w.round w.d v w.invariant.0)
 
 pub returns-then-not-one_round : goal.returns-then-not-one_round
 returns-then-not-one_round c =
-    let v = valid_known c.args.h c.requires.0 in
+    let v = valid_known _ c.requires.0 in
     let w = c.loop-round in
     let f = c.one_round in
     let e = sized (goal.at.returns-then-not-one_round c).After-size_of-count in
-    e ∙ hop_idle c.args.h c.args.table.now v c.args.x c.args.y c.requires.1 c.requires.2 w.round w.d w.invariant.0
-    (unmet_before c.args.h c.args.table.now v c.args.x c.args.y c.requires.1 c.requires.2 w.round w.invariant.1)
+    e ∙ hop_idle _ _ v _ _ c.requires.1 c.requires.2 w.round w.d w.invariant.0
+    (unmet_before _ _ v _ _ c.requires.1 c.requires.2 w.round w.invariant.1)
     (omega (arith, e)) (sym f.ensures.reaches ∙ c.if-not-one_round.true)
 
 pub lowest_met-z-requires : goal.lowest_met-z-requires
 lowest_met-z-requires c =
-    let v = valid_known c.args.h c.requires.0 in
+    let v = valid_known _ c.requires.0 in
     let w = c.loop-round in
     let e = sized (goal.at.lowest_met-z-requires c).After-size_of-count in (
       c.requires.0,
       c.requires.5,
       c.requires.1,
       e,
-      unmet_reads c.args.h c.args.table.now v c.args.x c.args.y c.requires.1 c.requires.2 (w.round + 1) _
-          (loop_more (linked c.args.h c.args.table.now) (cell_size c.args.h) none c.args.y (replicate (places - cell_size c.args.h) none) w.round w.d _ w.invariant.0 c.one_round.ensures.writes)
-          (unmet_next c.args.h c.args.table.now v c.args.x c.args.y c.requires.1 c.requires.2 w.round w.invariant.1)
-          (omega (arith, e, size_fits c.args.h v)),
+      unmet_reads _ _ v _ _ c.requires.1 c.requires.2 (w.round + 1) _
+          (loop_more (linked _ _) (cell_size _) none _ (replicate (places - cell_size _) none) w.round w.d _ w.invariant.0 c.one_round.ensures.writes)
+          (unmet_next _ _ v _ _ c.requires.1 c.requires.2 w.round w.invariant.1)
+          (omega (arith, e, size_fits _ v)),
     )
 
 pub returns-then-z-count : goal.returns-then-z-count
 returns-then-z-count c =
-    let v = valid_known c.args.h c.requires.0 in
+    let v = valid_known _ c.requires.0 in
     let w = c.loop-round in
     let e = sized (goal.at.returns-then-z-count c).After-size_of-count in
-    hop_met c.args.h c.args.table.now v c.args.x c.args.y c.requires.1 c.requires.2 (w.round + 1) _
-    (loop_more (linked c.args.h c.args.table.now) (cell_size c.args.h) none c.args.y (replicate (places - cell_size c.args.h) none) w.round w.d _ w.invariant.0 c.one_round.ensures.writes)
-    (unmet_next c.args.h c.args.table.now v c.args.x c.args.y c.requires.1 c.requires.2 w.round w.invariant.1)
-    (omega (arith, e, size_fits c.args.h v)) _ c.lowest_met-z.ensures (omega (arith, e))
+    hop_met _ _ v _ _ c.requires.1 c.requires.2 (w.round + 1) _
+    (loop_more (linked _ _) (cell_size _) none _ (replicate (places - cell_size _) none) w.round w.d _ w.invariant.0 c.one_round.ensures.writes)
+    (unmet_next _ _ v _ _ c.requires.1 c.requires.2 w.round w.invariant.1)
+    (omega (arith, e, size_fits _ v)) _ c.lowest_met-z.ensures (omega (arith, e))
 
 pub loop-round-preserved : goal.loop-round-preserved
 loop-round-preserved c =
-    let v = valid_known c.args.h c.requires.0 in
+    let v = valid_known _ c.requires.0 in
     let w = c.loop-round in
     let e = sized (goal.at.loop-round-preserved c).After-size_of-count in
-    let more = loop_more (linked c.args.h c.args.table.now) (cell_size c.args.h) none c.args.y (replicate (places - cell_size c.args.h) none) w.round w.d _ w.invariant.0 c.one_round.ensures.writes in (
+    let more = loop_more (linked _ _) (cell_size _) none _ (replicate (places - cell_size _) none) w.round w.d _ w.invariant.0 c.one_round.ensures.writes in (
       more,
-      still_unmet c.args.h c.args.table.now v c.args.x c.args.y c.requires.1 c.requires.2 (w.round + 1) _ more
-          (unmet_next c.args.h c.args.table.now v c.args.x c.args.y c.requires.1 c.requires.2 w.round w.invariant.1)
-          (omega (arith, e, size_fits c.args.h v)) _ c.lowest_met-z.ensures (omega (arith, e)),
+      still_unmet _ _ v _ _ c.requires.1 c.requires.2 (w.round + 1) _ more
+          (unmet_next _ _ v _ _ c.requires.1 c.requires.2 w.round w.invariant.1)
+          (omega (arith, e, size_fits _ v)) _ c.lowest_met-z.ensures (omega (arith, e)),
     )
 
 pub returns : goal.returns
 returns c =
-    let v = valid_known c.args.h c.requires.0 in
+    let v = valid_known _ c.requires.0 in
     let w = c.loop-round in
     let e = sized (goal.at.returns c).After-size_of-count in
-    e ∙ hop_full c.args.h c.args.table.now v c.args.x c.args.y c.requires.1 c.requires.2 w.round (omega (arith, e))
-    (unmet_before c.args.h c.args.table.now v c.args.x c.args.y c.requires.1 c.requires.2 w.round w.invariant.1)
+    e ∙ hop_full _ _ v _ _ c.requires.1 c.requires.2 w.round (omega (arith, e))
+    (unmet_before _ _ v _ _ c.requires.1 c.requires.2 w.round w.invariant.1)
