@@ -1,15 +1,18 @@
 -- The search for a proxy by level, then distance, then uid: the first that it meets is the choice.
 use mathlib.Core.Path.{◌≡◌, refl, sym, ◌∙◌, ap}
 use mathlib.Core.Bool.{Bool, true, false, not, false≢true}
-use mathlib.Core.List.{List}
+use mathlib.Core.List.{List, [], ◌∷◌}
 use mathlib.Core.Logic.{⊎_elim}
-use Prim.Native.Nat.{ℕ, suc, ◌+◌, ◌-◌, ◌<◌, ◌≤◌}
+use Prim.Native.Nat.{ℕ, zero, suc, ◌+◌, ◌-◌, ◌<◌, ◌≤◌, max}
 use native.Mathlib.Nat.{eq-or-lt_of_le}
-use native.Mathlib.Numerals.{add-one}
+use native.Mathlib.Numerals.{add-one, unary_clauses}
 use native.Mathlib.Omega.{arith}
 use lib.Dec.{eqb, ltb}
-use lib.ListN.{length, get_or}
+use lib.ListN.{length, get_or, take}
+use lib.Seq.{get_or-take}
 use borrow.Author.Tests.{eq-eqb, ne_eqb, lt-ltb, ltb-true, ltb-false, eqb-true, eqb-false}
+use Rattle.std.specs.List.{filter, fold, reduce}
+use Rattle.std.specs.Option.{unwrap_or}
 use Rattle.combine.specs.Tests.{both}
 use Rattle.combine.proofs.Tests.{cases, never, both_left, both_right, both_true}
 use Rattle.hall.specs.declared.Hall.{Hall}
@@ -101,12 +104,33 @@ none_behind s me i q last d x e small far l low =
     (eq-or-lt_of_le small))
     (λ w. w)
 
--- the greatest of one place more
-pub within_more : (distance : List ℕ) (place most more : ℕ) → most ≤ more → (get_or distance place 0 < none → get_or distance place 0 ≤ more)
-    → ((q : ℕ) → q < place → get_or distance q 0 < none → get_or distance q 0 ≤ most)
-    → (q : ℕ) → q < place + 1 → get_or distance q 0 < none → get_or distance q 0 ≤ more
-within_more distance place most more l here before q b w =
-    ⊎_elim (λ (e : q ≡ place). rw e (here (rw e at w))) (λ (k : q < place). omega (arith, before q k w)) (eq-or-lt_of_le {n = q} {m = place} (omega arith))
+-- the greatest of those distances that are there: no less than what it began with, and there too
+greatest : (most : ℕ) (xs : List ℕ) → most < none → (most ≤ fold max most (filter (λ d. ltb d none) xs)) × (fold max most (filter (λ d. ltb d none) xs) < none)
+greatest most [] l = (omega arith, l)
+greatest most (x ∷ xs) l = cases (ltb x none)
+    (λ e. let w = greatest (max most x) xs (omega (arith, ltb-true x none e)) in rw e (omega (arith, w.0), w.1))
+    (λ e. rw e (greatest most xs l))
+
+-- and no less than each of them
+greatest_each : (most : ℕ) (xs : List ℕ) (q : ℕ) → most < none → get_or xs q 0 < none → get_or xs q 0 ≤ fold max most (filter (λ d. ltb d none) xs)
+greatest_each most [] q l w = omega arith
+greatest_each most (x ∷ xs) zero l w = rw (lt-ltb x none w) (omega (arith, (greatest (max most x) xs (omega arith)).0))
+greatest_each most (x ∷ xs) (suc q) l w = cases (ltb x none)
+    (λ e. rw e (greatest_each (max most x) xs q (omega (arith, ltb-true x none e)) w))
+    (λ e. rw e (greatest_each most xs q l w))
+
+greatest_told : (xs : List ℕ) → unwrap_or (reduce max xs) 0 ≡ fold max 0 xs
+greatest_told [] = refl
+greatest_told (x ∷ xs) = simp unary_clauses refl
+
+-- the greatest among the first places of a record
+pub greatest_bounds : (distance : List ℕ) (count most : ℕ) → most ≡ unwrap_or (reduce max (filter (λ d. ltb d none) (take count distance))) 0
+    → (most < none) × ((q : ℕ) → q < count → get_or distance q 0 < none → get_or distance q 0 ≤ most)
+greatest_bounds distance count most e =
+    let f = e ∙ greatest_told (filter (λ d. ltb d none) (take count distance)) in (
+      rw f (greatest 0 (take count distance) (omega arith)).1,
+      λ q l w. let t = get_or-take {A = ℕ} count distance q 0 l in rw (f, ← t) (greatest_each 0 (take count distance) q (omega arith) (rw t w)),
+    )
 
 -- a search that goes up by one level: what is left of it
 module _ (find : ℕ → Candidate) (n l : ℕ) where

@@ -128,9 +128,6 @@ module _ (h : Hall) (whole : Bool) (table : List ℕ) (level : ℕ) where
   unfolding place_of
   own_usable u count w e = rw (w, e)
 
-  pub own_open : (me place : ℕ) → whole ≡ false → usable h table level place ≡ usable h (held h whole table me) level place
-  own_open me place w = rw w
-
   whole_usable : (u v : ℕ) → Crossed h whole table u v level → whole ≡ true → both_up h table level u v ≡ usable h (held h whole table u) level (place_of h u)
   whole_usable u v a w =
       ap (both_up h table level u) a.leads

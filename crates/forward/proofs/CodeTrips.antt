@@ -21,7 +21,7 @@ use Rattle.forward.specs.declared.Journey.{Journey}
 use Rattle.forward.specs.Packets.{forwarded, tidied}
 use Rattle.forward.specs.Journeys.{Trip, step_at, ends_at, goes_on, trip_on, trip, sight}
 use Rattle.forward.specs.Answers.{most_passed, passed, journey_from}
-use Rattle.forward.specs.Inside.{Here, Sound, Departing}
+use Rattle.forward.specs.Inside.{Departing}
 use Rattle.forward.proofs.Trips.{tidied_retry, step_sends}
 use Rattle.forward.proofs.Steps.{reroutes_few}
 use Rattle.forward.proofs.Hops.{step_forwards}
@@ -85,9 +85,6 @@ module _ (h : Hall) (table : List ℕ) (me : ℕ) (p : Packet) (a : Departing h 
 -- the journey goes by the hall table as its codes count, and each of its steps has the table as it stands
 pub departs_counted : (h : Hall) (table : List ℕ) (me : ℕ) (p : Packet) → Departing h table me p → Departing h (counted h 0 table) me p
 departs_counted h table me p a = record { sound = a.sound; long = counted_length h 0 table ∙ a.long; fits = a.fits; packet = a.packet }
-
-pub here_whole : (h : Hall) (table : List ℕ) (me : ℕ) (p : Packet) → Departing h (counted h 0 table) me p → Here h true table me × Sound h p
-here_whole h table me p a = (record { sound = a.sound; long = sym (counted_length h 0 table) ∙ a.long; fits = a.fits }, a.packet)
 
 -- what is passed so far, before a trip
 abbrev behind : List ℕ → ℕ → ℕ → Trip → Trip

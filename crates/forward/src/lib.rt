@@ -97,11 +97,9 @@ fn cleared(p: Packet) -> Packet
     ensures { result ≡ cleared p }
 {
     Packet {
-        dst: p.dst,
         has_proxy: false,
         proxy: 0,
-        retry: p.retry,
-        ttl: p.ttl,
+        ..p
     }
 }
 
@@ -130,11 +128,9 @@ fn proxied(proxy: u32, p: Packet) -> Packet
     ensures { result ≡ proxied proxy p }
 {
     Packet {
-        dst: p.dst,
         has_proxy: true,
         proxy,
-        retry: p.retry,
-        ttl: p.ttl,
+        ..p
     }
 }
 
@@ -144,11 +140,8 @@ fn retried(p: Packet) -> Packet
     ensures { result ≡ retried (p.retry - 1) p }
 {
     Packet {
-        dst: p.dst,
-        has_proxy: p.has_proxy,
-        proxy: p.proxy,
         retry: p.retry - 1,
-        ttl: p.ttl,
+        ..p
     }
 }
 
@@ -158,11 +151,8 @@ fn aged(p: Packet) -> Packet
     ensures { result ≡ aged p }
 {
     Packet {
-        dst: p.dst,
-        has_proxy: p.has_proxy,
-        proxy: p.proxy,
-        retry: p.retry,
         ttl: p.ttl - 1,
+        ..p
     }
 }
 
@@ -218,13 +208,9 @@ fn one_more(o: Step) -> Step
     requires { o.reroutes < 4294967295 }
     ensures { result ≡ one_more o }
 {
-    let packet = o.packet;
     Step {
-        refusal: o.refusal,
-        ending: o.ending,
-        next: o.next,
-        packet,
         reroutes: o.reroutes + 1,
+        ..o
     }
 }
 
@@ -373,32 +359,18 @@ fn way_over(h: Hall, whole: bool, table: &[u8], me: u32, goal: u32, link: Crossi
     }
 }
 
-// The farther of two distances, where the second may be none.
-fn farther(most: u8, d: u8) -> u8
-    ensures { (most ≤ result) × (d < none → d ≤ result) × (most < none → result < none) }
-{
-    if d == NONE {
-        return most;
-    }
-    if most < d {
-        return d;
-    }
-    most
-}
-
 // The greatest distance among the first places of a record.
 fn farthest(distance: &[u8; 72], count: u32) -> u8
     requires { count ≤ 72 }
     ensures { (result < none) × ((q : ℕ) → q < count → get_or distance.now q 0 < none → get_or distance.now q 0 ≤ result) }
 {
-    let mut most: u8 = 0;
-    let mut place: u32 = 0;
-    while place < count {
-        let at = place as usize;
-        most = farther(most, distance[at]);
-        place += 1;
-    }
-    most
+    let distances = &distance[..count as usize];
+    distances
+        .iter()
+        .copied()
+        .filter(|d| *d < NONE)
+        .max()
+        .unwrap_or(0)
 }
 
 // The server at a place of the DCell(b) around `me`.
@@ -477,22 +449,16 @@ fn choose(h: Hall, whole: bool, table: &[u8], me: u32, first: u32) -> Candidate
     let distance = from.distance;
     let last = farthest(&distance, count);
     let mut chosen = Candidate::Nothing;
-    let mut level = first;
-    'search: while level <= h.k {
-        let mut d: u8 = 0;
-        while d <= last {
-            let mut place: u32 = 0;
-            while place < count {
-                let at = place as usize;
-                if is_candidate(h, whole, table, me, level, place, distance[at], d) {
+    'search: for level in first..=h.k {
+        for d in 0..=last {
+            for place in 0..count {
+                let x = distance[place as usize];
+                if is_candidate(h, whole, table, me, level, place, x, d) {
                     chosen = Candidate::At { place, level };
                     break 'search;
                 }
-                place += 1;
             }
-            d += 1;
         }
-        level += 1;
     }
     chosen
 }
@@ -742,7 +708,8 @@ fn no_uids() -> [u32; MOST_PASSED]
     [0u32; MOST_PASSED]
 }
 
-// The journey of a packet that nothing refuses.
+// The journey of a packet that nothing refuses. The step that ends it ends the loop too, which stays a `loop`: behind a `for` an answer would be wanted
+// that no journey has.
 fn travel(h: Hall, table: &[u8], source: u32, packet: Packet) -> Journey
     requires { Departing h table.now source packet }
     ensures { result ≡ journey_from (trip h (counted h 0 table.now) source packet) }
@@ -766,8 +733,7 @@ fn travel(h: Hall, table: &[u8], source: u32, packet: Packet) -> Journey
             };
         }
         me = o.next;
-        let sent = o.packet;
-        p = sent;
+        p = o.packet;
         at += 1;
     }
 }

@@ -2,38 +2,23 @@
 -- is met at a level is its nearest, then its lowest.
 use mathlib.Core.Path.{◌≡◌}
 use mathlib.Core.Bool.{true}
-use Prim.Native.Nat.{ℕ, suc, ◌+◌, ◌-◌, ◌≤◌, ◌<◌}
+use Prim.Native.Nat.{ℕ, ◌≤◌, ◌<◌}
 use Rattle.local.specs.Local.{place_of}
 use Rattle.forward.specs.declared.Candidate.TheVariants.{Nothing}
 use Rattle.forward.specs.Seen.{seen}
 use Rattle.forward.specs.Inside.{lent}
 use Rattle.forward.specs.Proxies.{is_candidate, choice}
 use Rattle.forward.proofs.CodeChoice.{choice_from}
-use Rattle.forward.proofs.choose.Reads as reads
-use Rattle.forward.proofs.choose.Lts as lts
-use Rattle.forward.proofs.farthest.Reads as farthest-reads
-use Rattle.forward.proofs.is_candidate.Reads as is-candidate-reads
-use Rattle.local.proofs.distances_of.Reads as distances-of-reads
 use Rattle.forward.proofs.choose.Given as goal
 
 -- no candidate of a level among the first places is nearer than d, or none of those at distance d is below a place
 abbrev pub invariant-loop-place : goal.invariant-loop-place
-invariant-loop-place l = (l.place ≤ l.count) × (l.chosen ≡ Nothing)
+invariant-loop-place l = (l.chosen ≡ Nothing)
     × ((q : ℕ) → q < l.place → is_candidate (seen l.h (lent l.h l.whole l.table l.me)) (place_of l.h l.me) l.level q ≡ true → l.d < (seen l.h (lent l.h l.whole l.table l.me)).distance (place_of l.h l.me) q)
 
-abbrev pub decreases-loop-place : goal.decreases-loop-place
-decreases-loop-place l = l.count - l.place
-
 abbrev pub invariant-loop-d : goal.invariant-loop-d
-invariant-loop-d l = (l.d ≤ l.last + 1) × (l.chosen ≡ Nothing)
+invariant-loop-d l = (l.chosen ≡ Nothing)
     × ((q : ℕ) → q < l.count → is_candidate (seen l.h (lent l.h l.whole l.table l.me)) (place_of l.h l.me) l.level q ≡ true → l.d ≤ (seen l.h (lent l.h l.whole l.table l.me)).distance (place_of l.h l.me) q)
-
-abbrev pub decreases-loop-d : goal.decreases-loop-d
-decreases-loop-d l = l.last + 1 - l.d
 
 abbrev pub invariant-search : goal.invariant-search
 invariant-search l = (choice_from l.h (seen l.h (lent l.h l.whole l.table l.me)) (place_of l.h l.me) l.level ≡ choice l.h (seen l.h (lent l.h l.whole l.table l.me)) (place_of l.h l.me) l.first) × (l.chosen ≡ Nothing)
-    × (l.first ≤ l.level)
-
-abbrev pub decreases-search : goal.decreases-search
-decreases-search l = suc l.h.k - l.level

@@ -18,12 +18,6 @@ overflow_mul-far c = let a = c.requires in omega (arith, far_few _ a.sound, far_
 pub overflow_add-far : goal.overflow_add-far
 overflow_add-far c = let a = c.requires in omega (arith, far_few _ a.sound, far_first _ _ _ a)
 
-pub cell_size-requires : goal.cell_size-requires
-cell_size-requires c = c.requires.sound
-
-pub overflow_cast-result : goal.overflow_cast-result
-overflow_cast-result c = let a = c.requires in omega (arith, far_few _ a.sound, far_first _ _ _ a)
-
 pub overflow_add-result : goal.overflow_add-result
 overflow_add-result c = let a = c.requires in omega (arith, long (goal.at.overflow_add-result c).After-bytes_of, cell_bytes _ a.sound, far_few _ a.sound, far_first _ _ _ a)
 

@@ -4,7 +4,6 @@ use mathlib.Core.List.{◌∷◌}
 use native.Mathlib.Omega.{arith}
 use Rattle.hall.specs.Halls.{asks_hall}
 use Rattle.hall.specs.Refusals.{refusal}
-use Rattle.hall.proofs.Growth.{some_servers}
 use Rattle.ends.specs.Tables.{step_length}
 use Rattle.forward.specs.Answers.{asks_lent, asks_packet}
 use Rattle.forward.proofs.CodeAsks.{no_hall, in_hall_lem, step_refused, step_answered, step_sound}
@@ -28,12 +27,6 @@ returns-then-servers-eq0 c =
     step_refused a.h a.uid a.packet a.table.now 1
     (no_hall a.h s.result s.ensures (step_length a.h) a.table.now a.uid a.packet c.if-servers-eq0.true)
     (λ z. omega arith) _ c.refused_step.ensures
-
-pub cell_size-cell-requires : goal.cell_size-cell-requires
-cell_size-cell-requires c = some_servers _ _ c.servers_of-servers.ensures c.if-servers-eq0.false
-
-pub step_bytes-requires : goal.step_bytes-requires
-step_bytes-requires c = (some_servers _ _ c.servers_of-servers.ensures c.if-servers-eq0.false, c.cell_size-cell.ensures)
 
 pub returns-then-number-ne0 : goal.returns-then-number-ne0
 returns-then-number-ne0 c =

@@ -6,9 +6,6 @@ use Rattle.forward.proofs.is_open.Goals as goal
 pub returns-then-not-is_up : goal.returns-then-not-is_up
 returns-then-not-is_up c = let f = c.is_up in open_not _ _ _ c.requires.0 _ _ f.ensures c.if-not-is_up.true
 
-pub far_place-at-requires : goal.far_place-at-requires
-far_place-at-requires c = c.requires.0
-
 pub bounds-table-at : goal.bounds-table-at
 bounds-table-at c =
     omega (arith, c.far_place-at.ensures, far_there _ _ _ c.requires.0 c.args.table.now c.requires.1)

@@ -1,19 +1,7 @@
 -- `forward::is_up_at` meets its contract: what is lent has both codes, or the hall table has them at the server and at its neighbour.
-use mathlib.Core.Path.{◌∙◌}
 use Rattle.forward.proofs.CodeSteps.{proxy_is}
-use Rattle.forward.proofs.CodeTables.{own_length, own_open, place_closed, neighbour_decides}
+use Rattle.forward.proofs.CodeTables.{place_closed, neighbour_decides}
 use Rattle.forward.proofs.is_up_at.Goals as goal
-
-pub is_open-requires : goal.is_open-requires
-is_open-requires c = let a = c.requires in (a.1, own_length _ _ _ _ a.0 c.if-not-whole.true)
-
-pub returns-then-not-whole : goal.returns-then-not-whole
-returns-then-not-whole c =
-    let a = c.args in
-    c.is_open.ensures ∙ own_open _ a.whole _ _ a.me _ c.if-not-whole.true
-
-pub uid_at-near-requires : goal.uid_at-near-requires
-uid_at-near-requires c = let a = c.requires in (a.0.sound, a.0.fits, a.1.inside)
 
 pub returns-then-not-is_up : goal.returns-then-not-is_up
 returns-then-not-is_up c =

@@ -11,9 +11,6 @@ use Rattle.forward.proofs.is_up_over.Goals as goal
 sized : (c : After-cell_size) → c.cell_size.result ≡ cell_size c.args.h
 sized c = c.cell_size.ensures
 
-pub cell_size-requires : goal.cell_size-requires
-cell_size-requires c = c.requires.here.sound
-
 pub nonzero_rem-near : goal.nonzero_rem-near
 nonzero_rem-near c = omega (arith, size_pos _ (valid_known _ c.requires.here.sound), sized (goal.at.nonzero_rem-near c).After-cell_size)
 

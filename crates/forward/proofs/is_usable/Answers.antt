@@ -6,9 +6,6 @@ use Rattle.forward.proofs.is_usable.Goals as goal
 pub returns-then-not-is_up_over : goal.returns-then-not-is_up_over
 returns-then-not-is_up_over c = let f = c.is_up_over in link_shut _ _ _ _ _ _ _ c.requires f.ensures c.if-not-is_up_over.true
 
-pub is_full-requires : goal.is_full-requires
-is_full-requires c = c.requires.here.sound
-
 pub returns-then-is_full : goal.returns-then-is_full
 returns-then-is_full c =
     let f = c.is_up_over in

@@ -9,18 +9,12 @@ returns-then-not-is_up_at c =
     let f = c.is_up_at in
     place_shut _ _ _ _ _ _ _ a.0 a.1 f.ensures c.if-not-is_up_at.true
 
-pub is_full-requires : goal.is_full-requires
-is_full-requires c = c.requires.0.sound
-
 pub returns-then-is_full : goal.returns-then-is_full
 returns-then-is_full c =
     let a = c.requires in
     let f = c.is_up_at in
     let g = c.is_full in
     place_full _ _ _ _ _ _ _ a.0 a.1 f.ensures c.if-not-is_up_at.false (sym g.ensures ∙ c.if-is_full.true)
-
-pub proxy_of-requires : goal.proxy_of-requires
-proxy_of-requires c = let a = c.requires in record { above = a.1; fits = a.0.fits }
 
 pub are_fitted-requires : goal.are_fitted-requires
 are_fitted-requires c = let a = c.requires in placed_servers _ _ _ _ _ _ _ a.0 a.1 c.proxy_of.ensures

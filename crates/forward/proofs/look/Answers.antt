@@ -2,12 +2,6 @@
 use Rattle.forward.specs.Inside.{outlook_of}
 use Rattle.forward.proofs.look.Goals as goal
 
-pub way_over-requires : goal.way_over-requires
-way_over-requires c = let a = c.requires in record { here = a.here; fits = a.fits; apart = a.apart; first = c.first_link-link.ensures }
-
-pub share_cell-requires : goal.share_cell-requires
-share_cell-requires c = c.requires.here.sound
-
 pub returns-then-share_cell : goal.returns-then-share_cell
 unfolding outlook_of
 returns-then-share_cell c =

@@ -1,6 +1,5 @@
 -- `forward::own_part` meets its contract: the first bytes of what is lent, or the run of the hall table for the DCell(b).
 use mathlib.Core.Path.{◌≡◌, ◌∙◌}
-use native.Mathlib.Nat.{div-le_self}
 use native.Mathlib.Omega.{arith}
 use Rattle.hall.proofs.Growth.{valid_known}
 use Rattle.ports.specs.Codes.{cell_length}
@@ -23,14 +22,8 @@ slice_bounds-result-end c = own_within _ _ _ _ c.requires _ (lent_long (goal.at.
 pub returns-then-not-whole : goal.returns-then-not-whole
 returns-then-not-whole c = own_first _ _ _ _ c.requires _ (lent_long (goal.at.returns-then-not-whole c).After-bytes_of-lent) c.if-not-whole.true
 
-pub cell_size-cell-requires : goal.cell_size-cell-requires
-cell_size-cell-requires c = c.requires.sound
-
 pub nonzero_div-from : goal.nonzero_div-from
 nonzero_div-from c = omega (arith, size_pos _ (valid_known _ c.requires.sound), c.cell_size-cell.ensures)
-
-pub overflow_cast-from : goal.overflow_cast-from
-overflow_cast-from c = omega (arith, div-le_self c.args.me c.cell_size-cell.result)
 
 pub overflow_mul-from : goal.overflow_mul-from
 overflow_mul-from c = omega (arith, part_within _ _ _ _ c.requires _ (long (goal.at.overflow_mul-from c).After-bytes_of-bytes) c.if-not-whole.false _ c.cell_size-cell.ensures)

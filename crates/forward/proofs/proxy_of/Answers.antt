@@ -2,8 +2,5 @@
 use Rattle.forward.proofs.CodeSteps.{proxy_is}
 use Rattle.forward.proofs.proxy_of.Goals as goal
 
-pub uid_at-requires : goal.uid_at-requires
-uid_at-requires c = let a = c.requires in (a.above.sound, a.fits, a.above.inside)
-
 pub returns : goal.returns
 returns c = proxy_is _ _ _ _ c.requires _ c.uid_at.ensures _ c.neighbour_of.ensures

@@ -11,9 +11,6 @@ use Rattle.forward.proofs.share_cell.Goals as goal
 sized : (c : After-cell_size-count) → c.cell_size-count.result ≡ cell_size c.args.h
 sized c = c.cell_size-count.ensures
 
-pub cell_size-count-requires : goal.cell_size-count-requires
-cell_size-count-requires c = c.requires
-
 pub nonzero_div-result : goal.nonzero_div-result
 nonzero_div-result c = omega (arith, size_pos _ (valid_known _ c.requires), sized (goal.at.nonzero_div-result c).After-cell_size-count)
 

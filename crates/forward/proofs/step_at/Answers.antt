@@ -66,9 +66,6 @@ returns-then-packet-eq0 c =
 pub look-outlook-requires : goal.look-outlook-requires
 look-outlook-requires c = stands_ahead _ _ _ _ (on_way_stands (goal.at.look-outlook-requires c).After-is_arrived-arrived) _ (on_way_goal (goal.at.look-outlook-requires c).After-goal)
 
-pub sent-requires : goal.sent-requires
-sent-requires c = rw (goes_on (goal.at.sent-requires c).After-cleared_if-in-Next) (on_way_stands (goal.at.sent-requires c).After-is_arrived-arrived).alive
-
 pub returns-in-Next : goal.returns-in-Next
 returns-in-Next c =
     from_4 (goal.at.returns-in-Next c).After-look-outlook _ (step_goes _ _ _ _ _ c.is_arrived-arrived.result _ (seen_ahead (goal.at.returns-in-Next c).After-look-outlook) _ _ c.in-Next.is (c.sent.ensures ∙ rw (goes_on (goal.at.returns-in-Next c).After-cleared_if-in-Next)))

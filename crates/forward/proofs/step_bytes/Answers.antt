@@ -22,9 +22,6 @@ overflow_sub-result c = let v = valid_known _ c.requires.0 in omega (arith, v.b_
 pub overflow_mul-result : goal.overflow_mul-result
 overflow_mul-result c = omega (arith, far (goal.at.overflow_mul-result c).After-bytes_of, far_few _ c.requires.0)
 
-pub overflow_cast-result : goal.overflow_cast-result
-overflow_cast-result c = omega (arith, far (goal.at.overflow_cast-result c).After-bytes_of, far_few _ c.requires.0)
-
 pub overflow_add-result : goal.overflow_add-result
 overflow_add-result c = let v = c.requires.0 in omega (arith, near (goal.at.overflow_add-result c).After-bytes_of, cell_bytes _ v, far (goal.at.overflow_add-result c).After-bytes_of, far_few _ v)
 

@@ -2,20 +2,11 @@
 use native.Mathlib.Omega.{arith}
 use borrow.Author.Rules.{rules}
 use Rattle.counted.specs.Counted.{counted}
-use Rattle.forward.proofs.CodeTrips.{departs_counted, here_whole, sets_off, step_few, ttl_falls, ends_journey, goes_on_lem}
+use Rattle.forward.proofs.CodeTrips.{departs_counted, sets_off, step_few, ttl_falls, ends_journey, goes_on_lem}
 use Rattle.forward.proofs.travel.Goals as goal
 
 pub loop-h-init : goal.loop-h-init
 loop-h-init c = sets_off c.args.h (counted c.args.h 0 c.args.table.now) c.args.source c.args.packet _ c.no_uids-uids.ensures (search rules) (departs_counted _ _ _ _ c.requires)
-
-pub offset_bounds-uids-at : goal.offset_bounds-uids-at
-offset_bounds-uids-at c = let l = c.loop-h.invariant.left in omega arith
-
-pub bounds-uids-at : goal.bounds-uids-at
-bounds-uids-at c = let l = c.loop-h.invariant.left in omega arith
-
-pub step_at-o-requires : goal.step_at-o-requires
-step_at-o-requires c = here_whole _ _ _ _ c.loop-h.invariant.departing
 
 pub overflow_add-reroutes : goal.overflow_add-reroutes
 overflow_add-reroutes c =
@@ -28,9 +19,6 @@ overflow_add-reroutes c =
     let r = w.invariant.few in
     omega arith
 
-pub overflow_cast-result : goal.overflow_cast-result
-overflow_cast-result c = let l = c.loop-h.invariant.left in omega arith
-
 pub returns-then-o-ne-FORWARDED : goal.returns-then-o-ne-FORWARDED
 returns-then-o-ne-FORWARDED c =
     let w = c.loop-h in
@@ -38,9 +26,6 @@ returns-then-o-ne-FORWARDED c =
     let d = w.invariant.departing in
     let q = c.step_at-o.ensures in
     ends_journey a.h (counted a.h 0 a.table.now) a.source a.packet w.uids w.me w.p w.reroutes w.at w.invariant c.step_at-o.result q c.if-o-ne-FORWARDED.true
-
-pub overflow_add-at : goal.overflow_add-at
-overflow_add-at c = let l = c.loop-h.invariant.left in omega arith
 
 pub loop-h-smaller : goal.loop-h-smaller
 loop-h-smaller c =

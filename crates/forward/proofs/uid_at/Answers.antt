@@ -1,6 +1,5 @@
 -- `forward::uid_at` meets its contract: the place is counted from the cell's first uid.
 use mathlib.Core.Path.{◌≡◌}
-use native.Mathlib.Nat.{div-add-mod'}
 use native.Mathlib.Omega.{arith}
 use Rattle.hall.proofs.Growth.{valid_known}
 use Rattle.local.specs.Local.{cell_size}
@@ -14,9 +13,6 @@ sized c = cell_size_lem _ _ c.requires.0 c.size_of.ensures
 
 pub nonzero_rem-result : goal.nonzero_rem-result
 nonzero_rem-result c = omega (arith, size_pos _ (valid_known _ c.requires.0), sized (goal.at.nonzero_rem-result c).After-size_of)
-
-pub overflow_sub-result : goal.overflow_sub-result
-overflow_sub-result c = omega (arith, div-add-mod' c.args.me c.size_of.result)
 
 pub overflow_add-result : goal.overflow_add-result
 overflow_add-result c = let a = c.requires in omega (arith, uid_fits_in _ _ _ _ a.0 a.1 a.2 (sized (goal.at.overflow_add-result c).After-size_of))
