@@ -6,6 +6,7 @@ use Prim.Native.Nat.{ℕ, zero, suc, ◌+◌, ◌-◌, ◌≤◌, ◌<◌}
 use native.Mathlib.Omega.{arith}
 use lib.Dec.{eqb, ltb}
 use borrow.Author.Tests.{lt-ltb, ltb-true}
+use Rattle.std.proofs.Common.{Option, Some, None}
 use Rattle.combine.specs.Tests.{pick, both}
 use Rattle.combine.proofs.Tests.{cases}
 use Rattle.hall.specs.declared.Hall.{Hall}
@@ -20,7 +21,6 @@ use Rattle.local.proofs.Sizes.{place_fits}
 use Rattle.forward.specs.declared.Packet.{Packet}
 use Rattle.forward.specs.declared.Step.{Step}
 use Rattle.forward.specs.declared.Candidate.{Candidate}
-use Rattle.forward.specs.declared.Candidate.TheVariants as candidate
 use Rattle.forward.specs.Packets.{drop_route, cleared, proxied, retried, goal, sent, ended, one_more}
 use Rattle.forward.specs.Seen.{Seen}
 use Rattle.forward.specs.Proxies.{is_candidate, nearer_of, best_below, or_else, first_found, choice}
@@ -28,11 +28,11 @@ use Rattle.forward.specs.Steps.{Reroute, reachable, across, from4, set_proxy, fi
 use Rattle.forward.proofs.Links.{link_ahead}
 
 -- two searches that find the same at each of their levels
-found_same : (f g : ℕ → Candidate) (count i : ℕ) → ((l : ℕ) → i ≤ l → l < i + count → f l ≡ g l) → first_found f count i ≡ first_found g count i
+found_same : (f g : ℕ → Option Candidate) (count i : ℕ) → ((l : ℕ) → i ≤ l → l < i + count → f l ≡ g l) → first_found f count i ≡ first_found g count i
 unfolding first_found
 found_same f g zero i e = refl
 found_same f g (suc count) i e =
-    ap (λ (c : Candidate). or_else c (first_found f count (suc i))) (e i (omega arith) (omega arith))
+    ap (λ (c : Option Candidate). or_else c (first_found f count (suc i))) (e i (omega arith) (omega arith))
     ∙ ap (or_else (g i)) (found_same f g count (suc i) (λ l a b. e l (omega arith) (omega arith)))
 
 module _ (h : Hall) (is_valid : valid h ≡ true) (me : ℕ) (here : me < servers h) (distance hop : ℕ → ℕ → ℕ) (before after : ℕ → ℕ → Bool)
@@ -47,9 +47,9 @@ module _ (h : Hall) (is_valid : valid h ≡ true) (me : ℕ) (here : me < server
   unfolding is_candidate
   candidate_same o i p l low high = ap (both (not (eqb (distance o p) none))) (agree i p l low high)
 
-  nearer_same : (o i : ℕ) (c : Candidate) (p : ℕ) → nearer_of s o i c p ≡ nearer_of z o i c p
-  nearer_same o i candidate.Nothing p = refl
-  nearer_same o i (candidate.At q j) p = refl
+  nearer_same : (o i : ℕ) (c : Option Candidate) (p : ℕ) → nearer_of s o i c p ≡ nearer_of z o i c p
+  nearer_same o i None p = refl
+  nearer_same o i (Some c) p = refl
 
   best_same : (o i count : ℕ) → count ≤ cell_size h → h.b < i → i ≤ h.k → best_below s o i count ≡ best_below z o i count
   unfolding best_below
@@ -105,9 +105,9 @@ module _ (h : Hall) (is_valid : valid h ≡ true) (me : ℕ) (here : me < server
       from_same : (p : Packet) (arrived : Bool) → from4 h s me came r p arrived ≡ from4 h z me came q p arrived
       from_same p arrived = across_same p arrived (first_link h me (goal p)) (first_known (goal p))
 
-      set_same : (p : Packet) (c : Candidate) → set_proxy h s me came r p c ≡ set_proxy h z me came q p c
-      set_same p candidate.Nothing = refl
-      set_same p (candidate.At p1 i) = ap one_more (from_same (proxied (neighbour h.n (i - 1) (first_of h me + p1)) p) false)
+      set_same : (p : Packet) (c : Option Candidate) → set_proxy h s me came r p c ≡ set_proxy h z me came q p c
+      set_same p None = refl
+      set_same p (Some c) = ap one_more (from_same (proxied (neighbour h.n (c.level - 1) (first_of h me + c.place)) p) false)
 
     reroute_same : (n : ℕ) → Same (reroute_on h s me came n) (reroute_on h z me came n)
     unfolding Same reroute_on first_level Known

@@ -11,6 +11,7 @@ use lib.Dec.{eqb, ltb}
 use lib.ListN.{length, get_or, take}
 use lib.Seq.{get_or-take}
 use borrow.Author.Tests.{eq-eqb, ne_eqb, lt-ltb, ltb-true, ltb-false, eqb-true, eqb-false}
+use Rattle.std.proofs.Common.{Option, Some, None}
 use Rattle.std.specs.List.{filter, fold, reduce}
 use Rattle.std.specs.Option.{unwrap_or}
 use Rattle.combine.specs.Tests.{both}
@@ -27,9 +28,8 @@ use Rattle.local.proofs.Linked.{record_at}
 use Rattle.local.proofs.Distance.{local_bounded}
 use Rattle.local.proofs.Sizes.{size_fits, place_fits}
 use Rattle.forward.specs.declared.Candidate.{Candidate}
-use Rattle.forward.specs.declared.Candidate.TheVariants.{At, Nothing}
 use Rattle.forward.specs.Seen.{Seen}
-use Rattle.forward.specs.Proxies.{is_candidate, best_below, or_else, first_found, choice}
+use Rattle.forward.specs.Proxies.{is_candidate, candidate, best_below, or_else, first_found, choice}
 use Rattle.ends.specs.Tables.{cell_part}
 use Rattle.forward.specs.Inside.{Here, held, lent}
 use Rattle.forward.proofs.CodeTables.{own_long, counting_own}
@@ -45,19 +45,19 @@ module _ (s : Seen) (me i count : ℕ) where
       (λ e. absurd (omega (arith, n.lowest q (ltb-true q p e) m.candidate)))
       (λ e. ⊎_elim (λ (r : p ≡ q). sym r) (λ (l : p < q). absurd (omega (arith, m.lowest p l n.candidate))) (eq-or-lt_of_le (ltb-false q p e)))
 
-  pub nearest_best : (p : ℕ) → Nearest s me i count p → best_below s me i count ≡ At p i
+  pub nearest_best : (p : ℕ) → Nearest s me i count p → best_below s me i count ≡ candidate p i
   nearest_best p n = go (best_below s me i count) (best_found s me i count)
     where
-      go : (b : Candidate) → Best s me i count b → b ≡ At p i
-      go (At q j) (found m) = ap (λ (v : ℕ). At v i) (one_nearest p q n m)
-      go Nothing (missing none) = never n.candidate (none p n.below)
+      go : (b : Option Candidate) → Best s me i count b → b ≡ candidate p i
+      go (Some c) (found {p = q} m) = ap (λ (v : ℕ). candidate v i) (one_nearest p q n m)
+      go None (missing none) = never n.candidate (none p n.below)
 
-  pub none_best : ((q : ℕ) → q < count → is_candidate s me i q ≡ false) → best_below s me i count ≡ Nothing
+  pub none_best : ((q : ℕ) → q < count → is_candidate s me i q ≡ false) → best_below s me i count ≡ None
   none_best f = go (best_below s me i count) (best_found s me i count)
     where
-      go : (b : Candidate) → Best s me i count b → b ≡ Nothing
-      go (At q j) (found m) = never m.candidate (f q m.below)
-      go Nothing (missing none) = refl
+      go : (b : Option Candidate) → Best s me i count b → b ≡ None
+      go (Some c) (found {p = q} m) = never m.candidate (f q m.below)
+      go None (missing _) = refl
 
 -- one look at a place, by its distance x, for a candidate at distance d
 module _ (s : Seen) (me i p d : ℕ) (small : d < none) (x : ℕ) (xs : x ≡ s.distance me p) (t : Bool) (ts : t ≡ both (eqb x d) (s.usable i p)) where
@@ -133,23 +133,23 @@ greatest_bounds distance count most e =
     )
 
 -- a search that goes up by one level: what is left of it
-module _ (find : ℕ → Candidate) (n l : ℕ) where
+module _ (find : ℕ → Option Candidate) (n l : ℕ) where
   found_step : l < n → first_found find (n - l) l ≡ or_else (find l) (first_found find (n - (l + 1)) (l + 1))
   unfolding first_found
   found_step h = let e : n - l ≡ suc (n - (l + 1)) = omega arith in rw (e, add-one l)
 
-  pub found_here : (p i : ℕ) → l < n → find l ≡ At p i → first_found find (n - l) l ≡ At p i
+  pub found_here : (p i : ℕ) → l < n → find l ≡ candidate p i → first_found find (n - l) l ≡ candidate p i
   found_here p i h e = found_step h ∙ rw e
 
-  pub found_later : l < n → find l ≡ Nothing → first_found find (n - (l + 1)) (l + 1) ≡ first_found find (n - l) l
+  pub found_later : l < n → find l ≡ None → first_found find (n - (l + 1)) (l + 1) ≡ first_found find (n - l) l
   found_later h e = rw (found_step h, e)
 
-  pub found_never : n ≤ l → first_found find (n - l) l ≡ Nothing
+  pub found_never : n ≤ l → first_found find (n - l) l ≡ None
   unfolding first_found
   found_never h = let e : n - l ≡ 0 = omega arith in rw e
 
 -- the levels from l to k, of a choice
-abbrev pub choice_from : Hall → Seen → ℕ → ℕ → Candidate
+abbrev pub choice_from : Hall → Seen → ℕ → ℕ → Option Candidate
 choice_from h s me l = first_found (λ i. best_below s me i (cell_size h)) (suc h.k - l) l
 
 pub choice_whole : (h : Hall) (s : Seen) (me m : ℕ) → choice_from h s me m ≡ choice h s me m

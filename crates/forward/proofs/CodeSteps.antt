@@ -8,6 +8,7 @@ use native.Mathlib.Numerals.{sub-one}
 use native.Mathlib.Omega.{arith}
 use lib.Dec.{eqb, ltb}
 use borrow.Author.Tests.{eqb-false, eq-eqb, ne_eqb, not-true}
+use Rattle.std.proofs.Common.{Option, Some, None}
 use Rattle.combine.specs.Tests.{pick, both}
 use Rattle.combine.proofs.Tests.{cases, never, both_left, both_right}
 use Rattle.hall.specs.declared.Hall.{Hall}
@@ -28,13 +29,10 @@ use Rattle.forward.specs.declared.Way.{Way}
 use Rattle.forward.specs.declared.Way.TheVariants.{To, Closed, Unreached}
 use Rattle.forward.specs.declared.Outlook.{Outlook}
 use Rattle.forward.specs.declared.Outlook.TheVariants.{Next, NoRoute, Blocked}
-use Rattle.forward.specs.declared.Turned.{Turned}
-use Rattle.forward.specs.declared.Turned.TheVariants.{Again, NoProxy}
 use Rattle.forward.specs.declared.Candidate.{Candidate}
-use Rattle.forward.specs.declared.Candidate.TheVariants as candidate
 use Rattle.forward.specs.Packets.{drop_ttl, drop_route, drop_retry, drop_proxy, delivered, cleared, tidied, proxied, retried, is_arrived, goal, sent, ended, one_more}
 use Rattle.forward.specs.Seen.{Seen}
-use Rattle.forward.specs.Proxies.{is_candidate, choice}
+use Rattle.forward.specs.Proxies.{is_candidate, candidate, choice}
 use Rattle.forward.specs.Steps.{Reroute, reachable, across, from4, first_level, rerouted, set_proxy, reroute_on, step_from, step_on}
 use Rattle.forward.specs.Inside.{Here, Ahead, Sound, Standing, Stopped, Placed, cleared_if, way_to, way_over, outlook_by, outlook_of, turn_by, turn_of}
 use Rattle.forward.proofs.Passes.{step_passes}
@@ -45,16 +43,16 @@ use Rattle.forward.proofs.Links as ahead
 use Rattle.forward.proofs.Hops.{Suits, proxy_in_hall, proxy_away}
 
 -- a packet that tries again is told whole
-again_one : {p r : Packet} → Again p ≡ Again r → r ≡ p
+again_one : {p r : Packet} → Some p ≡ Some r → r ≡ p
 again_one {p} {r} e = cc
 
 -- what a reroute makes of a packet has its retry
-again_retry : (h : Hall) (me : ℕ) (p : Packet) (found : Candidate) (r : Packet) → turn_by h me p found ≡ Again r → r.retry ≡ p.retry
-again_retry h me p candidate.Nothing r e = absurd (let w : ◌≡◌ {A = ℕ} 0 1 = cc in omega arith)
-again_retry h me p (candidate.At p1 i) r e = ap (λ (x : Packet). x.retry) (again_one e)
+again_retry : (h : Hall) (me : ℕ) (p : Packet) (found : Option Candidate) (r : Packet) → turn_by h me p found ≡ Some r → r.retry ≡ p.retry
+again_retry h me p None r e = absurd (let w : ◌≡◌ {A = ℕ} 0 1 = cc in omega arith)
+again_retry h me p (Some c) r e = ap (λ (x : Packet). x.retry) (again_one e)
 
 pub turn_retry : (h : Hall) (s : Seen) (me : ℕ) (link : Crossing) (p : Packet) (arrived : Bool) (r : Packet)
-    → turn_of h s me link p arrived ≡ Again r → r.retry ≡ p.retry
+    → turn_of h s me link p arrived ≡ Some r → r.retry ≡ p.retry
 unfolding turn_of
 turn_retry h s me Nothing p arrived r e = ap (λ (x : Packet). x.retry) (again_one e)
 turn_retry h s me (Link n1 n2 m) p arrived r e = again_retry h me p (choice h s (place_of h me) (m + pick (both arrived (ltb m h.k)) 1 0)) r e
@@ -112,13 +110,13 @@ module _ (h : Hall) (s : Seen) (me : ℕ) (came : Packet) where
   reroute_more (suc (suc f)) link p arrived l = rw (sub-one (suc (suc f)))
 
   -- the reroute by what it makes of the packet
-  abbrev on_turn : Reroute → Turned → Step
-  on_turn reroute NoProxy = ended drop_proxy came
-  on_turn reroute (Again r) = one_more (from4 h s me came reroute r false)
+  abbrev on_turn : Reroute → Option Packet → Step
+  on_turn reroute None = ended drop_proxy came
+  on_turn reroute (Some r) = one_more (from4 h s me came reroute r false)
 
-  set_turn : (reroute : Reroute) (p : Packet) (found : Candidate) → set_proxy h s me came reroute p found ≡ on_turn reroute (turn_by h me p found)
-  set_turn reroute p candidate.Nothing = refl
-  set_turn reroute p (candidate.At p1 i) = refl
+  set_turn : (reroute : Reroute) (p : Packet) (found : Option Candidate) → set_proxy h s me came reroute p found ≡ on_turn reroute (turn_by h me p found)
+  set_turn reroute p None = refl
+  set_turn reroute p (Some c) = refl
 
   rerouted_turn : (reroute : Reroute) (link : Crossing) (p : Packet) (arrived : Bool)
       → rerouted h s me came reroute link p arrived ≡ on_turn reroute (turn_of h s me link p arrived)
@@ -127,16 +125,16 @@ module _ (h : Hall) (s : Seen) (me : ℕ) (came : Packet) where
   rerouted_turn reroute (Link n1 n2 m) p arrived = set_turn reroute p (choice h s (place_of h me) (first_level h s me came m arrived))
 
   module _ (p : Packet) (arrived : Bool) (many : 1 < p.retry) (q : Packet) (low : q ≡ retried (p.retry - 1) p)
-      (link : Crossing) (t : Turned) (is : t ≡ turn_of h s me link q arrived) where
+      (link : Crossing) (t : Option Packet) (is : t ≡ turn_of h s me link q arrived) where
     by_turn : reroute_on h s me came p.retry link p arrived ≡ on_turn (reroute_on h s me came (p.retry - 1)) t
     by_turn =
         reroute_more p.retry link p arrived many
         ∙ rerouted_turn (reroute_on h s me came (p.retry - 1)) link (retried (p.retry - 1) p) arrived ∙ rw (is, low)
 
-    pub reroute_misses : (o : Step) → t ≡ NoProxy → o ≡ ended drop_proxy came → o ≡ reroute_on h s me came p.retry link p arrived
+    pub reroute_misses : (o : Step) → t ≡ None → o ≡ ended drop_proxy came → o ≡ reroute_on h s me came p.retry link p arrived
     reroute_misses o e k = k ∙ sym (by_turn ∙ rw e)
 
-    pub reroute_again : (r : Packet) → t ≡ Again r → (o z : Step) → o ≡ step_from h s me came r false → z ≡ one_more o
+    pub reroute_again : (r : Packet) → t ≡ Some r → (o z : Step) → o ≡ step_from h s me came r false → z ≡ one_more o
         → z ≡ reroute_on h s me came p.retry link p arrived
     unfolding step_from
     reroute_again r e o z g k =
@@ -247,7 +245,7 @@ module _ {whole : Bool} (h : Hall) (table : List ℕ) (me : ℕ) (p : Packet) wh
     })
 
     module _ (n1 n2 m : ℕ) (e : link ≡ Link n1 n2 m) (arrived : Bool) (level : ℕ) (lv : level ≡ m + pick (both arrived (ltb m h.k)) 1 0)
-        (s : Seen) (found : Candidate) (c : found ≡ choice h s (place_of h me) level) (p1 i : ℕ) (f : found ≡ candidate.At p1 i) where
+        (s : Seen) (found : Option Candidate) (c : found ≡ choice h s (place_of h me) level) (p1 i : ℕ) (f : found ≡ candidate p1 i) where
       suits : Suits h s me p1 i
       unfolding is_candidate
       suits =
@@ -290,18 +288,18 @@ module _ {whole : Bool} (h : Hall) (table : List ℕ) (me : ℕ) (p : Packet) wh
     -- so what a reroute makes of it stands there
     module _ (s : Seen) (arrived : Bool) (r : Packet) where
       by_found : (n1 n2 m : ℕ) → link ≡ Link n1 n2 m
-          → (found : Candidate) → found ≡ choice h s (place_of h me) (m + pick (both arrived (ltb m h.k)) 1 0)
-          → turn_by h me p found ≡ Again r → Standing h whole table me r
-      by_found n1 n2 m e candidate.Nothing c t = absurd (let w : ◌≡◌ {A = ℕ} 0 1 = cc in omega arith)
-      by_found n1 n2 m e (candidate.At p1 i) c t =
-          stands_proxied n1 n2 m e arrived (m + pick (both arrived (ltb m h.k)) 1 0) refl s (candidate.At p1 i) c p1 i refl r (again_one t)
+          → (found : Option Candidate) → found ≡ choice h s (place_of h me) (m + pick (both arrived (ltb m h.k)) 1 0)
+          → turn_by h me p found ≡ Some r → Standing h whole table me r
+      by_found n1 n2 m e None c t = absurd (let w : ◌≡◌ {A = ℕ} 0 1 = cc in omega arith)
+      by_found n1 n2 m e (Some x) c t =
+          stands_proxied n1 n2 m e arrived (m + pick (both arrived (ltb m h.k)) 1 0) refl s (Some x) c x.place x.level refl r (again_one t)
 
-      by_link : (l : Crossing) → link ≡ l → turn_of h s me l p arrived ≡ Again r → Standing h whole table me r
+      by_link : (l : Crossing) → link ≡ l → turn_of h s me l p arrived ≡ Some r → Standing h whole table me r
       unfolding turn_of
       by_link Nothing e t = stands_cleared r (again_one t)
       by_link (Link n1 n2 m) e t = by_found n1 n2 m e (choice h s (place_of h me) (m + pick (both arrived (ltb m h.k)) 1 0)) refl t
 
-      pub stands_again : turn_of h s me link p arrived ≡ Again r → Standing h whole table me r
+      pub stands_again : turn_of h s me link p arrived ≡ Some r → Standing h whole table me r
       stands_again = by_link link refl
 
 -- a packet that nothing refuses, tidied, and as it goes on

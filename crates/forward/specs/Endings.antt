@@ -9,10 +9,9 @@ use Rattle.route.specs.Answers.{first_link}
 use Rattle.local.specs.Local.{cell_size, place_of, first_of}
 use Rattle.forward.specs.declared.Packet.{Packet}
 use Rattle.forward.specs.declared.Step.{Step}
-use Rattle.forward.specs.declared.Candidate.TheVariants as candidate
 use Rattle.forward.specs.Packets.{cleared, proxied, retried, is_arrived, goal}
 use Rattle.forward.specs.Seen.{Seen}
-use Rattle.forward.specs.Proxies.{is_candidate, choice}
+use Rattle.forward.specs.Proxies.{is_candidate, candidate, choice}
 use Rattle.forward.specs.Steps.{reachable, first_level}
 
 module _ (h : Hall) (s : Seen) (me : ℕ) (came : Packet) where
@@ -34,7 +33,7 @@ module _ (h : Hall) (s : Seen) (me : ℕ) (came : Packet) where
     was_cleared : {p : Packet} {arrived : Bool} {count f : ℕ} → Stands p arrived count → Fails p Nothing → p.retry ≡ suc (suc f)
         → Stands (cleared (retried (suc f) p)) false (suc count)
     was_set : {p : Packet} {arrived : Bool} {count f n1 n2 m p1 i : ℕ} → Stands p arrived count → Fails p (Link n1 n2 m) → p.retry ≡ suc (suc f)
-        → choice h s (place_of h me) (first_level h s me came m arrived) ≡ candidate.At p1 i
+        → choice h s (place_of h me) (first_level h s me came m arrived) ≡ candidate p1 i
         → Stands (proxied (neighbour h.n (i - 1) (first_of h me + p1)) (retried (suc f) p)) false (suc count)
 
   -- drop 2: dst is in the DCell(b) of self, and the local target of the last pass is out of reach

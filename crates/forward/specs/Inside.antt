@@ -1,6 +1,6 @@
 -- What the functions inside a step ask and answer, behind the refusals.
 -- Section "One forwarding step"; requests K3 and K5.
-use Rattle.std.specs.Prelude.{◌≡◌, Bool, true, not, List, [], ◌∷◌, ℕ, ◌+◌, ◌-◌, ◌<◌, ◌≤◌, eqb, ltb, length}
+use Rattle.std.specs.Prelude.{◌≡◌, Bool, true, not, List, [], ◌∷◌, ℕ, ◌+◌, ◌-◌, ◌<◌, ◌≤◌, eqb, ltb, length, Option, Some, None}
 use Rattle.combine.specs.Tests.{pick, both, either}
 use Rattle.hall.specs.declared.Hall.{Hall}
 use Rattle.hall.specs.Cells.{same, neighbour}
@@ -18,10 +18,7 @@ use Rattle.forward.specs.declared.Way.{Way}
 use Rattle.forward.specs.declared.Way.TheVariants.{To, Closed, Unreached}
 use Rattle.forward.specs.declared.Outlook.{Outlook}
 use Rattle.forward.specs.declared.Outlook.TheVariants.{Next, NoRoute, Blocked}
-use Rattle.forward.specs.declared.Turned.{Turned}
-use Rattle.forward.specs.declared.Turned.TheVariants.{Again, NoProxy}
 use Rattle.forward.specs.declared.Candidate.{Candidate}
-use Rattle.forward.specs.declared.Candidate.TheVariants as candidate
 use Rattle.forward.specs.Packets.{cleared, proxied, goal}
 use Rattle.forward.specs.Seen.{Seen}
 use Rattle.forward.specs.Proxies.{choice}
@@ -64,14 +61,14 @@ outlook_by h me dst link Unreached = pick (same h.n h.b me dst) NoRoute (Blocked
 unfoldable pub outlook_of : Hall → Seen → ℕ → ℕ → ℕ → Outlook
 outlook_of h s me dst goal = outlook_by h me dst (first_link h me goal) (way_over h s me goal (first_link h me goal))
 
--- the packet with p1's neighbour at a level for its proxy
-abbrev pub turn_by : Hall → ℕ → Packet → Candidate → Turned
-turn_by h me p candidate.Nothing = NoProxy
-turn_by h me p (candidate.At p1 i) = Again (proxied (neighbour h.n (i - 1) (first_of h me + p1)) p)
+-- the packet with the neighbour of a candidate's server for its proxy, if there is a candidate
+abbrev pub turn_by : Hall → ℕ → Packet → Option Candidate → Option Packet
+turn_by h me p None = None
+turn_by h me p (Some c) = Some (proxied (neighbour h.n (c.level - 1) (first_of h me + c.place)) p)
 
 -- what a reroute makes of a packet, for the link that is out (or none)
-unfoldable pub turn_of : Hall → Seen → ℕ → Crossing → Packet → Bool → Turned
-turn_of h s me Nothing p arrived = Again (cleared p)
+unfoldable pub turn_of : Hall → Seen → ℕ → Crossing → Packet → Bool → Option Packet
+turn_of h s me Nothing p arrived = Some (cleared p)
 turn_of h s me (Link n1 n2 m) p arrived = turn_by h me p (choice h s (place_of h me) (m + pick (both arrived (ltb m h.k)) 1 0))
 
 -- what a packet at a server is asked, in a hall of so many servers

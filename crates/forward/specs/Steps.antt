@@ -1,6 +1,6 @@
 -- One forwarding step, line by line as the section numbers it, recursive on the retry.
 -- Section "One forwarding step".
-use Rattle.std.specs.Prelude.{Bool, true, false, not, List, ℕ, zero, suc, ◌+◌, ◌-◌, eqb, ltb}
+use Rattle.std.specs.Prelude.{Bool, true, false, not, List, ℕ, zero, suc, ◌+◌, ◌-◌, eqb, ltb, Option, Some, None}
 use Rattle.combine.specs.Tests.{pick, both}
 use Rattle.hall.specs.declared.Hall.{Hall}
 use Rattle.hall.specs.Cells.{same, neighbour}
@@ -11,7 +11,6 @@ use Rattle.local.specs.Local.{none, place_of, first_of}
 use Rattle.forward.specs.declared.Packet.{Packet}
 use Rattle.forward.specs.declared.Step.{Step}
 use Rattle.forward.specs.declared.Candidate.{Candidate}
-use Rattle.forward.specs.declared.Candidate.TheVariants as candidate
 use Rattle.forward.specs.Packets.{drop_ttl, drop_route, drop_retry, drop_proxy, delivered, cleared, tidied, proxied, retried, is_arrived, goal, sent, ended, one_more}
 use Rattle.forward.specs.Seen.{Seen, seen}
 use Rattle.forward.specs.Proxies.{choice}
@@ -45,10 +44,10 @@ module _ (h : Hall) (s : Seen) (me : ℕ) (came : Packet) where
   abbrev pub from4 : Reroute → Packet → Bool → Step
   from4 reroute p arrived = across reroute p arrived (first_link h me (goal p))
 
-  -- the new proxy is p1's neighbour at that level
-  abbrev pub set_proxy : Reroute → Packet → Candidate → Step
-  set_proxy reroute p candidate.Nothing = ended drop_proxy came
-  set_proxy reroute p (candidate.At p1 i) = one_more (from4 reroute (proxied (neighbour h.n (i - 1) (first_of h me + p1)) p) false)
+  -- the new proxy is the neighbour of the candidate's server at the candidate's level
+  abbrev pub set_proxy : Reroute → Packet → Option Candidate → Step
+  set_proxy reroute p None = ended drop_proxy came
+  set_proxy reroute p (Some c) = one_more (from4 reroute (proxied (neighbour h.n (c.level - 1) (first_of h me + c.place)) p) false)
 
   -- the level to try first: that of the link, plus one if "arrived" and it is below k
   unfoldable pub first_level : ℕ → Bool → ℕ

@@ -54,9 +54,9 @@ pub struct Step {
 
 // A candidate for a new proxy: a place of the cell, and the level of its port.
 #[derive(Clone, Copy)]
-pub enum Candidate {
-    At { place: u32, level: u32 },
-    Nothing,
+pub struct Candidate {
+    pub place: u32,
+    pub level: u32,
 }
 
 // What a journey answers: its ending, the links crossed, the reroutes, and the uids passed, zeros behind them.
@@ -83,13 +83,6 @@ enum Outlook {
     Next { uid: u32 },
     NoRoute,
     Blocked { link: Crossing },
-}
-
-// What a reroute makes of a packet: one that tries again, or none where there is no proxy.
-#[derive(Clone, Copy)]
-enum Turned {
-    Again { packet: Packet },
-    NoProxy,
 }
 
 // The packet without a proxy.
@@ -440,7 +433,7 @@ fn is_candidate(
 
 // The candidate for a new proxy: the first by level, then by distance, then by uid.
 #[inline(never)]
-fn choose(h: Hall, whole: bool, table: &[u8], me: u32, first: u32) -> Candidate
+fn choose(h: Hall, whole: bool, table: &[u8], me: u32, first: u32) -> Option<Candidate>
     requires { Here h whole table.now me × (h.b < first) }
     ensures { result ≡ choice h (seen h (lent h whole table.now me)) (place_of h me) first }
 {
@@ -448,13 +441,13 @@ fn choose(h: Hall, whole: bool, table: &[u8], me: u32, first: u32) -> Candidate
     let count = from.count;
     let distance = from.distance;
     let last = farthest(&distance, count);
-    let mut chosen = Candidate::Nothing;
+    let mut chosen = None;
     'search: for level in first..=h.k {
         for d in 0..=last {
             for place in 0..count {
                 let x = distance[place as usize];
                 if is_candidate(h, whole, table, me, level, place, x, d) {
-                    chosen = Candidate::At { place, level };
+                    chosen = Some(Candidate { place, level });
                     break 'search;
                 }
             }
@@ -504,7 +497,7 @@ fn look(h: Hall, whole: bool, table: &[u8], me: u32, dst: u32, goal: u32) -> Out
     }
 }
 
-// The packet that goes by another way: without its proxy where no link is out, else with a new one.
+// The packet that goes by another way: without its proxy where no link is out, else with a new one, if there is one.
 fn turn(
     h: Hall,
     whole: bool,
@@ -513,23 +506,19 @@ fn turn(
     link: Crossing,
     p: Packet,
     arrived: bool,
-) -> Turned
+) -> Option<Packet>
     requires { Stopped h whole table.now me link p }
     ensures { result ≡ turn_of h (seen h (lent h whole table.now me)) me link p arrived }
 {
     match link {
-        Crossing::Nothing => Turned::Again { packet: cleared(p) },
+        Crossing::Nothing => Some(cleared(p)),
         Crossing::Link {
             near: _,
             far: _,
             level,
         } => {
-            match choose(h, whole, table, me, first_level(h, level, arrived)) {
-                Candidate::Nothing => Turned::NoProxy,
-                Candidate::At { place, level: at } => Turned::Again {
-                    packet: proxied(proxy_of(h, me, place, at), p),
-                },
-            }
+            let found = choose(h, whole, table, me, first_level(h, level, arrived))?;
+            Some(proxied(proxy_of(h, me, found.place, found.level), p))
         }
     }
 }
@@ -574,13 +563,11 @@ fn reroute(
     if p.retry <= 1 {
         return ended(DROP_RETRY, came);
     }
-    match turn(h, whole, table, me, link, retried(p), arrived) {
-        Turned::NoProxy => ended(DROP_PROXY, came),
-        Turned::Again { packet } => {
-            let outlook = look(h, whole, table, me, came.dst, goal(packet));
-            one_more(step_from(h, whole, table, me, came, packet, false, outlook))
-        }
-    }
+    let Some(packet) = turn(h, whole, table, me, link, retried(p), arrived) else {
+        return ended(DROP_PROXY, came);
+    };
+    let outlook = look(h, whole, table, me, came.dst, goal(packet));
+    one_more(step_from(h, whole, table, me, came, packet, false, outlook))
 }
 
 // The step of a packet that nothing refuses; one that has a way before it goes without a call into the cycle.

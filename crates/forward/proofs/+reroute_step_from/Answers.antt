@@ -14,13 +14,13 @@ reroute-turn-requires t c = stopped_retried _ _ _ _ _ c.requires _ c.retried.ens
 
 pub reroute-look-outlook-requires : goal.reroute-look-outlook-requires
 reroute-look-outlook-requires t c =
-    stands_ahead _ _ _ _ (stands_again _ _ _ _ _ (stopped_retried _ _ _ _ _ c.requires _ c.retried.ensures) _ c.args.arrived _ (sym c.turn.ensures ∙ c.in-Again.is)) _ c.goal.ensures
+    stands_ahead _ _ _ _ (stands_again _ _ _ _ _ (stopped_retried _ _ _ _ _ c.requires _ c.retried.ensures) _ c.args.arrived _ (sym c.turn.ensures ∙ c.in-Some.is)) _ c.goal.ensures
 
 pub reroute-step_from-requires : goal.reroute-step_from-requires
 reroute-step_from-requires t c = (
-  omega (arith, turn_retry _ _ _ _ _ _ _ (sym c.turn.ensures ∙ c.in-Again.is), ap (λ (x : Packet). x.retry) c.retried.ensures),
+  omega (arith, turn_retry _ _ _ _ _ _ _ (sym c.turn.ensures ∙ c.in-Some.is), ap (λ (x : Packet). x.retry) c.retried.ensures),
   (
-    stands_again _ _ _ _ _ (stopped_retried _ _ _ _ _ c.requires _ c.retried.ensures) _ c.args.arrived _ (sym c.turn.ensures ∙ c.in-Again.is),
+    stands_again _ _ _ _ _ (stopped_retried _ _ _ _ _ c.requires _ c.retried.ensures) _ c.args.arrived _ (sym c.turn.ensures ∙ c.in-Some.is),
     looked _ _ _ _ _ _ _ c.goal.ensures c.look-outlook.ensures,
   ),
 )
@@ -30,18 +30,18 @@ reroute-one_more-requires t c =
     omega (
       arith,
       step_few _ _ _ _ _ _ _ c.step_from.ensures,
-      turn_retry _ _ _ _ _ _ _ (sym c.turn.ensures ∙ c.in-Again.is),
+      turn_retry _ _ _ _ _ _ _ (sym c.turn.ensures ∙ c.in-Some.is),
       ap (λ (x : Packet). x.retry) c.retried.ensures,
       c.requires.standing.packet.retry_fits,
     )
 
-pub reroute-returns-in-NoProxy : goal.reroute-returns-in-NoProxy
-reroute-returns-in-NoProxy t c =
-    reroute_misses _ _ _ _ _ _ c.if-p-le1.false _ c.retried.ensures _ _ c.turn.ensures _ c.in-NoProxy.is c.ended-in-NoProxy.ensures
+pub reroute-returns-in_default : goal.reroute-returns-in_default
+reroute-returns-in_default t c =
+    reroute_misses _ _ _ _ _ _ c.if-p-le1.false _ c.retried.ensures _ _ c.turn.ensures _ c.in_default.is c.ended-in_default.ensures
 
-pub reroute-returns-in-Again : goal.reroute-returns-in-Again
-reroute-returns-in-Again t c =
-    reroute_again _ _ _ _ _ _ c.if-p-le1.false _ c.retried.ensures _ _ c.turn.ensures _ c.in-Again.is _ _ c.step_from.ensures c.one_more.ensures
+pub reroute-returns : goal.reroute-returns
+reroute-returns t c =
+    reroute_again _ _ _ _ _ _ c.if-p-le1.false _ c.retried.ensures _ _ c.turn.ensures _ c.in-Some.is _ _ c.step_from.ensures c.one_more.ensures
 
 pub step_from-sent-requires : goal.step_from-sent-requires
 step_from-sent-requires t c = c.requires.0.alive

@@ -3,10 +3,10 @@
 use mathlib.Core.Path.{◌≡◌, refl, sym, ◌∙◌}
 use Prim.Native.Nat.{◌+◌, ◌<◌}
 use native.Mathlib.Omega.{arith}
+use Rattle.std.proofs.Common.{None}
 use Rattle.local.specs.Local.{cell_size, place_of}
 use Rattle.forward.specs.Seen.{seen}
 use Rattle.forward.specs.Inside.{lent}
-use Rattle.forward.specs.declared.Candidate.TheVariants.{Nothing}
 use Rattle.forward.specs.Proxies.{best_below}
 use Rattle.forward.proofs.CodeChoice.{choice_whole, found_here, found_later, found_never, count_is, count_fits, distance_is, distance_small, look_finds, look_passes, passed_more, none_behind, nearest_best, none_best}
 use Rattle.forward.proofs.choose.Goals.{Left-loop-d, else-loop-d-test, then-loop-d-test+else-loop-place-test+else-d-last}
@@ -14,7 +14,7 @@ use Rattle.forward.proofs.choose.Goals as goal
 
 -- behind the last distance, no candidate of the level is left
 level_done : (c : Left-loop-d) → let s = seen c.args.h (lent c.args.h c.args.whole c.args.table.now c.args.me) in
-    (best_below s (place_of c.args.h c.args.me) c.search.level (cell_size c.args.h) ≡ Nothing) × (c.loop-d-test.chosen ≡ Nothing)
+    (best_below s (place_of c.args.h c.args.me) c.search.level (cell_size c.args.h) ≡ None) × (c.loop-d-test.chosen ≡ None)
 level_done c =
     let r = c.distances_of-from in
     let o = c.own_part.ensures in

@@ -14,16 +14,16 @@ choose-requires c =
 pub proxy_of-requires : goal.proxy_of-requires
 proxy_of-requires c =
     placed _ _ _ _ _ c.requires _ _ _ c.in-Link.is c.args.arrived _ c.first_level.ensures
-    _ _ c.choose.ensures _ _ c.in-At.is
+    _ _ c.choose.ensures c.in_ok-found-in-Link.found.place c.in_ok-found-in-Link.found.level c.in_ok-found-in-Link.was
 
 pub returns-in-Nothing : goal.returns-in-Nothing
 unfolding turn_of
 returns-in-Nothing c = rw (c.in-Nothing.is, c.cleared.ensures)
 
-pub returns-in-Nothing-choose : goal.returns-in-Nothing-choose
+pub returns-in_err-found-in-Link : goal.returns-in_err-found-in-Link
 unfolding turn_of
-returns-in-Nothing-choose c = rw (c.in-Link.is, ← c.first_level.ensures, ← c.choose.ensures, c.in-Nothing-choose.is)
+returns-in_err-found-in-Link c = rw (c.from_residual.ensures, c.in-Link.is, ← c.first_level.ensures, ← c.choose.ensures, c.in_err-found-in-Link.was)
 
-pub returns-in-At : goal.returns-in-At
+pub returns-in_ok-found-in-Link : goal.returns-in_ok-found-in-Link
 unfolding turn_of
-returns-in-At c = rw (c.in-Link.is, ← c.first_level.ensures, ← c.choose.ensures, c.in-At.is, c.proxied.ensures, c.proxy_of.ensures)
+returns-in_ok-found-in-Link c = rw (c.in-Link.is, ← c.first_level.ensures, ← c.choose.ensures, c.in_ok-found-in-Link.was, c.proxied.ensures, c.proxy_of.ensures)
