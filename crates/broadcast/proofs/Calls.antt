@@ -8,7 +8,8 @@ use native.Mathlib.Nat.{mod-lt}
 use native.Mathlib.Omega.{arith}
 use lib.ListN.{length, get_or, take, drop, replicate, length-set, length-replicate, length-append, get_or-append}
 use lib.Seq.{take_at, drop_at}
-use borrow.Author.Tests.{eqb-true, ne_eqb, leb-true, ltb-true}
+use borrow.Author.Tests.{eqb-true, leb-true, ltb-true}
+use Rattle.std.specs.Prelude.{Ok}
 use Rattle.combine.proofs.Tests.{cases}
 use Rattle.hall.specs.declared.Hall.{Hall}
 use Rattle.hall.specs.Cells.{cell}
@@ -29,7 +30,7 @@ use Rattle.search.proofs.Cut.{start_other}
 use Rattle.plan.specs.Answers.{fitted}
 use Rattle.counted.specs.Counted.{counted}
 use Rattle.broadcast.specs.declared.Broadcast.{Broadcast}
-use Rattle.broadcast.specs.Broadcasts.{none, scope_fits, scope_size, first_in, linked, rounds, rounds_of, tally_of, broadcast_refusal, broadcast_of, room_of}
+use Rattle.broadcast.specs.Broadcasts.{BroadcastAnswer, none, scope_fits, scope_size, first_in, linked, rounds, rounds_of, tally_of, broadcast_refusal, broadcast_of, broadcast_stated, room_of}
 use Rattle.broadcast.specs.Sweeps.{fitted_places, Scoped, Behind, Ready}
 use Rattle.broadcast.proofs.Refusals.{scope_low, scope_two, scope_small}
 use Rattle.broadcast.proofs.Fitted.{rounds_unfitted, reached_unfitted, last_unfitted, Over, rounds_behind, places_unfitted, places_over, none_unfitted}
@@ -45,24 +46,17 @@ pub record Accepted (h : Hall) (table : List ℕ) (u s : ℕ) (room : List ℕ) 
   pub scope : scope_fits h s ≡ true
   pub long : scope_size h s ≤ length room
 
-module _ (h : Hall) (table : List ℕ) (u s : ℕ) (room : List ℕ) where
-  pub accepted : broadcast_refusal h table u s room ≡ 0 → Accepted h table u s room
+module _ {h : Hall} {table : List ℕ} {u s : ℕ} {room : List ℕ} where
+  pub accepted : 0 ≡ broadcast_refusal h table u s room → Accepted h table u s room
   accepted e =
-      let a = unrefused_hold _ refl e in
+      let a = unrefused_hold _ refl (sym e) in
       record {
         sound = record { is_valid = a.0; long = eqb-true (length table) (table_length h) a.1.0; below = ltb-true u (servers h) a.1.1.0 };
         scope = a.1.1.1.0;
         long = leb-true (scope_size h s) (length room) a.1.1.1.1.0;
       }
 
-  -- a refused call
-  pub answer_refused : (r : ℕ) → r ≡ broadcast_refusal h table u s room → (r ≡ 0 → ⊥) → ◌≡◌ {A = Broadcast} (record { refusal = r; reached = 0; last = 0 }) (broadcast_of h table u s room)
-  answer_refused r e ne = rw (← e, ne_eqb r 0 ne)
-
-  pub room_as_lent : (r : ℕ) → r ≡ broadcast_refusal h table u s room → (r ≡ 0 → ⊥) → room ≡ room_of h table u s room
-  room_as_lent r e ne = rw (← e, ne_eqb r 0 ne)
-
-  module _ (k : Accepted h table u s room) (size : ℕ) (size_is : size ≡ scope_size h s) where
+  module _ (k : Accepted h table u s room) {size : ℕ} (size_is : size ≡ scope_size h s) where
     pub low : s ≤ h.k
     low = scope_low h s k.scope
 
@@ -96,8 +90,8 @@ module _ (h : Hall) (table : List ℕ) (u s : ℕ) (room : List ℕ) where
     length-start = length-set {A = ℕ} (replicate size none) (u % size) 0 ∙ length-replicate {A = ℕ} size none
 
     -- the room behind `begin`, and the places that the rounds go over
-    module _ (count : ℕ) (count_is : count ≡ fitted_places h u s) (mid : List ℕ) (begun : mid ≡ start size none (u % size) ++ drop size room)
-        (r : ℕ) (e : r ≡ broadcast_refusal h table u s room) (z : r ≡ 0) where
+    module _ {count : ℕ} (count_is : count ≡ fitted_places h u s) {mid : List ℕ} (begun : mid ≡ start size none (u % size) ++ drop size room)
+        (e : 0 ≡ broadcast_refusal h table u s room) where
       -- none: the source alone
       module _ (nobody : count ≡ 0) where
         unfitted : fitted h u ≡ false
@@ -108,13 +102,13 @@ module _ (h : Hall) (table : List ℕ) (u s : ℕ) (room : List ℕ) where
             begun
             ∙ ap (λ (m : ℕ). start m none (u % m) ++ drop m room) size_is
             ∙ ap (λ (l : List ℕ). l ++ drop (scope_size h s) room) (sym (rounds_unfitted h table u s k.sound.is_valid k.scope unfitted))
-            ∙ rw (← e, z)
+            ∙ rw (← e)
 
-        pub answer_alone : ◌≡◌ {A = Broadcast} (record { refusal = 0; reached = 1; last = 0 }) (broadcast_of h table u s room)
+        pub answer_alone : broadcast_stated (Ok (record { reached = 1; last = 0 })) ≡ broadcast_of h table u s room
         answer_alone =
-            let counts : ℕ → ℕ → Broadcast = λ a b. record { refusal = 0; reached = a; last = b } in
+            let counts : ℕ → ℕ → BroadcastAnswer = λ a b. record { refusal = 0; reached = a; last = b } in
             sym (ap₂ counts (reached_unfitted h table u s k.sound.is_valid k.scope unfitted) (last_unfitted h table u s k.sound.is_valid k.scope unfitted))
-            ∙ rw (← e, z)
+            ∙ rw (← e)
 
       -- some: the source is among them
       module _ (somebody : count ≡ 0 → ⊥) where
@@ -182,7 +176,7 @@ module _ (h : Hall) (table : List ℕ) (u s : ℕ) (room : List ℕ) where
             ∙ sym over.rounds_are
 
         -- the room behind the rounds
-        module _ (part : List ℕ) (part_is : part ≡ run h table s u) (end : List ℕ) (ran : end ≡ distances (joined h part s) count none (u % size) ++ drop count mid) where
+        module _ {part : List ℕ} (part_is : part ≡ run h table s u) {end : List ℕ} (ran : end ≡ distances (joined h part s) count none (u % size) ++ drop count mid) where
           room_holds : end ≡ rounds_of h table u s ++ drop size room
           room_holds =
               ran
@@ -196,18 +190,18 @@ module _ (h : Hall) (table : List ℕ) (u s : ℕ) (room : List ℕ) where
           room_long = omega (arith, count_most, ap length room_holds, length-append (rounds_of h table u s) (drop size room), length-rounds)
 
           pub room_at_exit : end ≡ room_of h table u s room
-          room_at_exit = room_holds ∙ rw (← e, z, size_is)
+          room_at_exit = room_holds ∙ rw (← e, size_is)
 
           -- nobody behind the places is reached, so the counts over them are the counts over all
-          pub answer_is : (o : Broadcast) → o ≡ tally_of count end → o ≡ broadcast_of h table u s room
-          answer_is o f =
+          pub answer_is : (b : Broadcast) → broadcast_stated (Ok b) ≡ tally_of count end → broadcast_stated (Ok b) ≡ broadcast_of h table u s room
+          answer_is b f =
               let d : List ℕ = rounds_of h table u s in
               let l : count ≤ length d = omega (arith, count_most, length-rounds) in
               let behind = rounds_behind h table u s count over in
-              let counts : ℕ → ℕ → Broadcast = λ a b. record { refusal = 0; reached = a; last = b } in
+              let counts : ℕ → ℕ → BroadcastAnswer = λ a b. record { refusal = 0; reached = a; last = b } in
               f
               ∙ ap (λ (a : List ℕ). tally_of count a) room_holds
               ∙ ap₂ counts
               (reached_tail none d (drop size room) count l ∙ sym (reached_front none d count (scope_size h s) over.most behind))
               (last_tail none d (drop size room) count l ∙ sym (last_front none d count (scope_size h s) over.most behind))
-              ∙ rw (← e, z)
+              ∙ rw (← e)

@@ -1,5 +1,5 @@
 -- Laws of refusals: which number the broadcast call gives, by the table and the uid, then the scope, then the room.
-use mathlib.Core.Path.{◌≡◌, refl}
+use mathlib.Core.Path.{◌≡◌, refl, sym}
 use mathlib.Core.Bool.{true, false}
 use mathlib.Core.List.{List, [], ◌∷◌}
 use Prim.Native.Nat.{ℕ, min, ◌≤◌, ◌<◌}
@@ -12,22 +12,25 @@ use Rattle.combine.specs.Tests.{pick}
 use Rattle.hall.specs.declared.Hall.{Hall}
 use Rattle.hall.specs.Cells.{t}
 use Rattle.hall.specs.Halls.{valid, asks_hall, asks_uid}
-use Rattle.hall.specs.Refusals.{in_order, bad_address, short_room}
+use Rattle.hall.specs.declared.refusals.Refusal.{Refusal}
+use Rattle.hall.specs.Refusals.{in_order, number_of, bad_address, short_room}
 use Rattle.hall.proofs.Asks.{refused_before, decided_after}
 use Rattle.hall.proofs.Growth.{valid_known, t_more, t_up}
+use Rattle.hall.proofs.Stated.{number_not_zero}
 use Rattle.ports.specs.Answers.{asks_table, part_refusal}
 use Rattle.broadcast.specs.Broadcasts.{none, scope_fits, scope_size, asks_scope, asks_room, broadcast_refusal}
 
 module _ (h : Hall) (table : List ℕ) (u s : ℕ) (room : List ℕ) where
   -- what the table and the uid are refused for comes first
-  pub table_refused : (r : ℕ) → r ≡ part_refusal h table u → (r ≡ 0 → ⊥) → r ≡ broadcast_refusal h table u s room
-  table_refused = refused_before (asks_hall h ∷ asks_table h table ∷ asks_uid h u ∷ []) (asks_scope h s ∷ asks_room h s room ∷ []) refl refl
+  pub table_refused : (r : Refusal) → number_of r ≡ part_refusal h table u → number_of r ≡ broadcast_refusal h table u s room
+  table_refused r e =
+      refused_before (asks_hall h ∷ asks_table h table ∷ asks_uid h u ∷ []) (asks_scope h s ∷ asks_room h s room ∷ []) refl refl (number_of r) e (number_not_zero r)
 
   -- then the scope, then the room
-  module _ (z : part_refusal h table u ≡ 0) where
+  module _ (z : 0 ≡ part_refusal h table u) where
     decided : broadcast_refusal h table u s room ≡ pick (scope_fits h s) (pick (leb (scope_size h s) (length room)) 0 short_room) bad_address
     unfolding in_order
-    decided = decided_after (asks_hall h ∷ asks_table h table ∷ asks_uid h u ∷ []) (asks_scope h s ∷ asks_room h s room ∷ []) refl refl z
+    decided = decided_after (asks_hall h ∷ asks_table h table ∷ asks_uid h u ∷ []) (asks_scope h s ∷ asks_room h s room ∷ []) refl refl (sym z)
 
     pub scope_refused : scope_fits h s ≡ false → 11 ≡ broadcast_refusal h table u s room
     scope_refused d = rw (decided, d)

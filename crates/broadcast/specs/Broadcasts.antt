@@ -1,8 +1,9 @@
 -- The rounds of a broadcast within a scope, and what the call answers and writes.
 -- Sections "Broadcast" and "Refusal numbers"; request K5.
-use Rattle.std.specs.Prelude.{Bool, List, [], ◌∷◌, ◌++◌, ℕ, min, ◌+◌, ◌*◌, ◌%◌, leb, length, drop}
+use Rattle.std.specs.Prelude.{Bool, List, [], ◌∷◌, ◌++◌, ℕ, min, ◌+◌, ◌*◌, ◌%◌, leb, length, drop, Result}
 use Rattle.hall.specs.declared.Hall.{Hall}
-use Rattle.hall.specs.Refusals.{Ask, refusal, answered, bad_address, short_room}
+use Rattle.hall.specs.declared.refusals.Refusal.{Refusal}
+use Rattle.hall.specs.Refusals.{Ask, refusal, answered, stated, bad_address, short_room}
 use Rattle.hall.specs.Cells.{t, cell}
 use Rattle.hall.specs.Halls.{asks_hall, asks_uid}
 use Rattle.ports.specs.Links.{joined}
@@ -54,16 +55,29 @@ abbrev pub broadcast_refusal : Hall → List ℕ → ℕ → ℕ → List ℕ �
 broadcast_refusal h table source s room =
     refusal (asks_hall h ∷ asks_table h table ∷ asks_uid h source ∷ asks_scope h s ∷ asks_room h s room ∷ [])
 
+-- the servers reached and the last round, and what a refusal answers
+pub record BroadcastAnswer : Type 0 where
+  pub refusal : ℕ
+  pub reached : ℕ
+  pub last : ℕ
+
+abbrev pub no_broadcast : ℕ → BroadcastAnswer
+no_broadcast number = record { refusal = number; reached = 0; last = 0 }
+
 -- how many of the first `size` numbers of a room are below 65,535, and the greatest of those
-abbrev pub tally_of : ℕ → List ℕ → Broadcast
+abbrev pub tally_of : ℕ → List ℕ → BroadcastAnswer
 tally_of size room = record { refusal = 0; reached = reached_count none room size; last = last_round none room size }
 
 -- the servers reached, source included, and the last round: the greatest number below 65,535
-abbrev pub broadcast_of : Hall → List ℕ → ℕ → ℕ → List ℕ → Broadcast
+abbrev pub broadcast_of : Hall → List ℕ → ℕ → ℕ → List ℕ → BroadcastAnswer
 broadcast_of h table source s room =
     answered (broadcast_refusal h table source s room)
     (tally_of (scope_size h s) (rounds_of h table source s))
-    (λ number. record { refusal = number; reached = 0; last = 0 })
+    no_broadcast
+
+-- the number and the values of an answer
+abbrev pub broadcast_stated : Result Broadcast Refusal → BroadcastAnswer
+broadcast_stated = stated (λ b. record { refusal = 0; reached = b.reached; last = b.last }) no_broadcast
 
 -- the room at exit: the numbers from its start, the rest unchanged; as lent where refused
 abbrev pub room_of : Hall → List ℕ → ℕ → ℕ → List ℕ → List ℕ

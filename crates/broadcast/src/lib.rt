@@ -5,15 +5,16 @@
 pub mod places;
 pub mod sweeps;
 
-ghost use Rattle.std.specs.Prelude.{◌≡◌, ◌++◌, ◌+◌, ◌*◌, ◌%◌, ◌≤◌, ◌<◌, length, take, drop, replicate};
+ghost use Rattle.std.specs.Prelude.{◌≡◌, ◌++◌, ◌+◌, ◌*◌, ◌%◌, ◌≤◌, ◌<◌, length, take, drop, replicate, Ok};
+ghost use Rattle.hall.specs.Refusals.{refusal_in};
 ghost use Rattle.ports.specs.Links.{joined};
 ghost use Rattle.search.specs.Rounds.{start, distances, reached_count, last_round};
 ghost use Rattle.broadcast.specs.Sweeps.{fitted_places, Scoped, Ready};
-ghost use Rattle.broadcast.specs.Broadcasts.{none, scope_fits, tally_of, broadcast_refusal, broadcast_of, room_of};
+ghost use Rattle.broadcast.specs.Broadcasts.{none, scope_fits, tally_of, broadcast_refusal, broadcast_of, broadcast_stated, room_of};
 
 use crate::sweeps::one_round;
 use hall::Hall;
-use hall::refusals::{BAD_ADDRESS, SHORT_ROOM};
+use hall::refusals::Refusal;
 
 // The number of a server that is not reached.
 pub const NONE: u16 = 65535;
@@ -21,7 +22,6 @@ pub const NONE: u16 = 65535;
 // The servers reached, the source included, and the last round; the numbers themselves are in the lent room.
 #[derive(Clone, Copy)]
 pub struct Broadcast {
-    pub refusal: u32,
     pub reached: u32,
     pub last: u32,
 }
@@ -34,21 +34,18 @@ fn scope_fits(h: Hall, s: u32) -> bool
     s <= h.k.min(2)
 }
 
-// Why a broadcast is refused, 0 where it is not.
-fn refused(h: Hall, table: &[u8], source: u32, scope: u32, room: &[u16]) -> u32
-    ensures { result ≡ broadcast_refusal h table.now source scope room.now }
+// Why a broadcast is refused.
+fn refused(h: Hall, table: &[u8], source: u32, scope: u32, room: &[u16]) -> Result<(), Refusal>
+    ensures { refusal_in result ≡ broadcast_refusal h table.now source scope room.now }
 {
-    let number = ports::part_refusal(h, table, source);
-    if number != 0 {
-        return number;
-    }
+    ports::part_refusal(h, table, source)?;
     if !scope_fits(h, scope) {
-        return BAD_ADDRESS;
+        return Err(Refusal::BadAddress);
     }
     if room.len() < (hall::size_of(h, scope) as usize) {
-        return SHORT_ROOM;
+        return Err(Refusal::ShortRoom);
     }
-    0
+    Ok(())
 }
 
 // How many places of the source's DCell the rounds go over: those of its fitted servers, which are its first; none where the source is not fitted.
@@ -103,7 +100,7 @@ fn run(h: Hall, table: &[u8], room: &mut [u16], scope: u32, size: u32, origin: u
 // The servers reached and the last round, of the numbers at the start of a room.
 fn tally(room: &[u16], size: u32) -> Broadcast
     requires { size ≤ length room.now }
-    ensures { result ≡ tally_of size room.now }
+    ensures { broadcast_stated (Ok result) ≡ tally_of size room.now }
 {
     let mut reached: u32 = 0;
     let mut last: u32 = 0;
@@ -113,11 +110,7 @@ fn tally(room: &[u16], size: u32) -> Broadcast
             last = last.max(u32::from(number));
         }
     }
-    Broadcast {
-        refusal: 0,
-        reached,
-        last,
-    }
+    Broadcast { reached, last }
 }
 
 // Writes each server's number of links from the source to the room, and answers how many are reached and the last round.
@@ -127,18 +120,11 @@ pub fn broadcast_rounds(
     source: u32,
     scope: u32,
     room: &mut [u16],
-) -> Broadcast
-    ensures answer { result ≡ broadcast_of h table.now source scope room.old }
+) -> Result<Broadcast, Refusal>
+    ensures answer { broadcast_stated result ≡ broadcast_of h table.now source scope room.old }
     ensures room { room.new ≡ room_of h table.now source scope room.old }
 {
-    let number = refused(h, table, source, scope, room);
-    if number != 0 {
-        return Broadcast {
-            refusal: number,
-            reached: 0,
-            last: 0,
-        };
-    }
+    refused(h, table, source, scope, room)?;
     let size = hall::size_of(h, scope);
     let bytes = (size as usize) * ((h.k as usize) + 1);
     let from = ((source / size) as usize) * bytes;
@@ -147,12 +133,11 @@ pub fn broadcast_rounds(
     let count = fitted_places(h, source, scope, size);
     begin(room, size, origin);
     if count == 0 {
-        return Broadcast {
-            refusal: 0,
+        return Ok(Broadcast {
             reached: 1,
             last: 0,
-        };
+        });
     }
     run(h, &table[from..to], room, scope, count, origin);
-    tally(room, count)
+    Ok(tally(room, count))
 }
