@@ -4,13 +4,12 @@ use mathlib.Core.List.{List, ◌++◌}
 use Prim.Native.Nat.{ℕ, ◌+◌, ◌-◌, ◌*◌, ◌≤◌, ◌<◌}
 use native.Mathlib.Omega.{arith}
 use lib.ListN.{length, drop, length-append}
-use borrow.Author.Tests.{eq-eqb}
 use Rattle.combine.specs.Lists.{up_to}
 use Rattle.combine.proofs.Lists.{length-up_to}
 use Rattle.hall.specs.declared.Hall.{Hall}
 use Rattle.hall.specs.Rooms.{told, written}
 use Rattle.hall.proofs.Growth.{valid_known}
-use Rattle.hall.proofs.Told.{told_refused, told_short, told_good, written_refused, written_short, written_good}
+use Rattle.hall.proofs.Told.{told_short, told_good, written_short, written_good}
 use Rattle.words.specs.Rooms.{put, room_of}
 use Rattle.words.proofs.Rooms.{put_put, room_long, room_start}
 use Rattle.hall.specs.Answers.{size_of}
@@ -77,54 +76,43 @@ pub plain_room : (h : Hall) (table : List ℕ) (u : ℕ) (near : List ℕ) (size
 plain_room h table u near size k room m first both e f =
     f ∙ ap (λ (r : List ℕ). put r (length near) (up_to (far_at h table u) (far_count h))) e ∙ table_plain h table u k.sound room m near k.near_is
 
--- by the refusal of the part
-module _ (h : Hall) (table : List ℕ) (u : ℕ) where
-  module _ (r : ℕ) (e : r ≡ part_refusal h table u) (room : List ℕ) where
-    pub table_refused : (r ≡ 0 → ⊥) → (r ≡ told (of_step_table h table u) room) × (room ≡ written (of_step_table h table u) room)
-    table_refused d =
-        let ne : part_refusal h table u ≡ 0 → ⊥ = λ z. d (e ∙ z) in (
-          e ∙ sym (told_refused (part_refusal h table u) (of_step_table h table u).1 room ne),
-          written_refused (part_refusal h table u) (of_step_table h table u).1 room ne,
+-- where the part is not refused
+module _ (h : Hall) (table : List ℕ) (u : ℕ) (z : 0 ≡ part_refusal h table u) where
+  pub part_sound : Sound h table u
+  part_sound = sound h table u (sym z)
+
+  part_is : part_of h table u ≡ part h table u
+  part_is = rw (← z)
+
+  -- by the part and the size that the code was handed
+  pub parted : (near : List ℕ) (size : ℕ) → near ≡ part_of h table u → size ≡ size_of h h.b → Parted h table u near size
+  unfolding step_length
+  parted near size p q =
+      let long : length near ≡ cell_length h h.b = ap length (p ∙ part_is) ∙ part_length h table u part_sound in
+      let sized = cell_size_lem h size part_sound.is_valid q in
+      let far = all_far h part_sound.is_valid size sized in
+      record { sound = part_sound; near_is = p ∙ part_is; near_long = long; size_is = sized; far_is = far; wanted = omega (arith, long, far) }
+
+  table_is : (of_step_table h table u).1 ≡ step_table h (counted h 0 table) u
+  table_is = rw (← z)
+
+  long : length (of_step_table h table u).1 ≡ step_length h
+  long = ap length table_is ∙ length-step h (counted h 0 table) u (counted_sound h table u part_sound)
+
+  module _ (room : List ℕ) where
+    pub table_short : length room < step_length h → (6 ≡ told (of_step_table h table u) room) × (room ≡ written (of_step_table h table u) room)
+    table_short l =
+        let k : length room < length (of_step_table h table u).1 = omega (arith, long) in (
+          sym (told_short (part_refusal h table u) (of_step_table h table u).1 room (sym z) k),
+          written_short (part_refusal h table u) (of_step_table h table u).1 room (sym z) k,
         )
 
-    module _ (z : r ≡ 0) where
-      none : part_refusal h table u ≡ 0
-      none = sym e ∙ z
+    pub table_told : step_length h ≤ length room → 0 ≡ told (of_step_table h table u) room
+    table_told l = sym (told_good (part_refusal h table u) (of_step_table h table u).1 room (sym z) (omega (arith, long)))
 
-      pub part_sound : Sound h table u
-      part_sound = sound h table u none
-
-      part_is : part_of h table u ≡ part h table u
-      part_is = rw (eq-eqb (part_refusal h table u) 0 none)
-
-      -- by the part and the size that the code was handed
-      pub parted : (near : List ℕ) (size : ℕ) → near ≡ part_of h table u → size ≡ size_of h h.b → Parted h table u near size
-      unfolding step_length
-      parted near size p q =
-          let long : length near ≡ cell_length h h.b = ap length (p ∙ part_is) ∙ part_length h table u part_sound in
-          let sized = cell_size_lem h size part_sound.is_valid q in
-          let far = all_far h part_sound.is_valid size sized in
-          record { sound = part_sound; near_is = p ∙ part_is; near_long = long; size_is = sized; far_is = far; wanted = omega (arith, long, far) }
-
-      table_is : (of_step_table h table u).1 ≡ step_table h (counted h 0 table) u
-      table_is = rw (eq-eqb (part_refusal h table u) 0 none)
-
-      long : length (of_step_table h table u).1 ≡ step_length h
-      long = ap length table_is ∙ length-step h (counted h 0 table) u (counted_sound h table u part_sound)
-
-      pub table_short : length room < step_length h → (6 ≡ told (of_step_table h table u) room) × (room ≡ written (of_step_table h table u) room)
-      table_short l =
-          let k : length room < length (of_step_table h table u).1 = omega (arith, long) in (
-            sym (told_short (part_refusal h table u) (of_step_table h table u).1 room none k),
-            written_short (part_refusal h table u) (of_step_table h table u).1 room none k,
-          )
-
-      pub table_told : step_length h ≤ length room → 0 ≡ told (of_step_table h table u) room
-      table_told l = sym (told_good (part_refusal h table u) (of_step_table h table u).1 room none (omega (arith, long)))
-
-      -- the table at the start of the room
-      pub table_written : step_length h ≤ length room → (bytes : List ℕ) → bytes ≡ step_table h (counted h 0 table) u
-          → bytes ++ drop (length bytes) room ≡ written (of_step_table h table u) room
-      table_written l bytes q =
-          let k : length (of_step_table h table u).1 ≤ length room = omega (arith, long) in
-          ap (λ (s : List ℕ). s ++ drop (length s) room) (q ∙ sym table_is) ∙ written_good (part_refusal h table u) (of_step_table h table u).1 room none k
+    -- the table at the start of the room
+    pub table_written : step_length h ≤ length room → (bytes : List ℕ) → bytes ≡ step_table h (counted h 0 table) u
+        → bytes ++ drop (length bytes) room ≡ written (of_step_table h table u) room
+    table_written l bytes q =
+        let k : length (of_step_table h table u).1 ≤ length room = omega (arith, long) in
+        ap (λ (s : List ℕ). s ++ drop (length s) room) (q ∙ sym table_is) ∙ written_good (part_refusal h table u) (of_step_table h table u).1 room (sym z) k

@@ -7,6 +7,7 @@ ghost use Rattle.std.specs.Prelude.{◌≡◌, true, ◌+◌, ◌*◌, ◌≤◌
 ghost use Rattle.combine.specs.Tests.{pick};
 ghost use Rattle.combine.specs.Lists.{up_to};
 ghost use Rattle.hall.specs.Halls.{valid, servers};
+ghost use Rattle.hall.specs.Refusals.{refusal_in};
 ghost use Rattle.hall.specs.Rooms.{told, written};
 ghost use Rattle.words.specs.Rooms.{put};
 ghost use Rattle.ports.specs.Codes.{not_fitted, code_of, cell_length};
@@ -18,7 +19,7 @@ ghost use Rattle.ends.specs.Filling.{far_behind, spread, port_code, run_counted,
 ghost use Rattle.ends.specs.Answers.{of_step_table};
 
 use hall::Hall;
-use hall::refusals::SHORT_ROOM;
+use hall::refusals::Refusal;
 use words::put_bytes;
 
 // The code of a port that is not fitted.
@@ -61,7 +62,7 @@ fn put_level(h: Hall, table: &[u8], uid: u32, level: u32, room: &mut [u8], at: u
     let size = hall::size_of(h, level - 1);
     let step = (h.k - h.b) as usize;
     let first = uid / count * count;
-    let far = cells::neighbour_of(h, first, level).uid;
+    let far = cells::neighbour_of(h, first, level).unwrap();
     let inside = first % size;
     let sub = first / size % (size + 1);
     for p in 0..count {
@@ -93,7 +94,7 @@ fn code_counted(h: Hall, here: bool, uid: u32, port: u32, code: u8) -> u8
     if port < 2 {
         return code;
     }
-    if !plan::is_fitted(h, cells::neighbour_of(h, uid, port).uid) {
+    if !plan::is_fitted(h, cells::neighbour_of(h, uid, port).unwrap()) {
         return NOT_FITTED;
     }
     code
@@ -133,26 +134,23 @@ fn count_codes(h: Hall, uid: u32, room: &mut [u8], near: usize)
     count_run(h, uid, h.b + 1, h.k - h.b, room, near);
 }
 
-// Writes the table that a server's step is lent to the start of the room and answers 0; or answers a refusal and leaves the room as lent.
-pub fn step_table(h: Hall, table: &[u8], uid: u32, room: &mut [u8]) -> u32
-    ensures number { result ≡ told (of_step_table h table.now uid) room.old }
+// Writes the table that a server's step is lent to the start of the room; or answers a refusal and leaves the room as lent.
+pub fn step_table(h: Hall, table: &[u8], uid: u32, room: &mut [u8]) -> Result<(), Refusal>
+    ensures number { refusal_in result ≡ told (of_step_table h table.now uid) room.old }
     ensures room { room.new ≡ written (of_step_table h table.now uid) room.old }
 {
-    let number = ports::part_refusal(h, table, uid);
-    if number != 0 {
-        return number;
-    }
+    ports::part_refusal(h, table, uid)?;
     let part = ports::part_of(h, table, uid);
     let far = hall::size_of(h, h.b) * (h.k - h.b);
     let near = part.len();
     if room.len() < near + (far as usize) {
-        return SHORT_ROOM;
+        return Err(Refusal::ShortRoom);
     }
     put_bytes(room, 0, part);
     put_far(h, table, uid, room, near);
     if h.count == hall::racks_of(h.n, h.k) {
-        return 0;
+        return Ok(());
     }
     count_codes(h, uid, room, near);
-    0
+    Ok(())
 }

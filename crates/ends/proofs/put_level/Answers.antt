@@ -6,15 +6,15 @@ use native.Mathlib.Numerals.{add-one}
 use native.Mathlib.Omega.{arith}
 use lib.ListN.{length}
 use Rattle.hall.specs.Cells.{t, neighbour}
+use Rattle.hall.specs.Halls.{servers}
 use Rattle.hall.proofs.Growth.{valid_known, valid_size, size_of_lem}
-use Rattle.cells.specs.declared.Neighbour.{Neighbour}
-use Rattle.cells.proofs.Asks.{neighbour_told}
+use Rattle.cells.proofs.Stated.{neighbour_known, neighbour_is}
 use Rattle.local.specs.Local.{cell_size, first_of}
 use Rattle.local.proofs.Sizes.{cell_size_lem, size_pos}
 use Rattle.ends.specs.Tables.{levels, far_code}
 use Rattle.ends.specs.Filling.{spread}
 use Rattle.ends.proofs.Codes.{first_by, first_in_lem, size_some, far_is, far_fits, far_read, cell_few, all_far}
-use Rattle.ends.proofs.put_level.Goals.{In-loop-p, After-neighbour_of-far, After-struct_known-1}
+use Rattle.ends.proofs.put_level.Goals.{In-loop-p, After-unwrap-far, After-struct_known-1}
 use Rattle.ends.proofs.put_level.Goals as goal
 
 counted : (c : After-struct_known-1) → c.size_of-count.result ≡ cell_size c.args.h
@@ -27,13 +27,13 @@ first_is : (c : After-struct_known-1) → let a = c.args in
     a.uid / c.size_of-count.result * c.size_of-count.result ≡ first_of a.h a.uid
 first_is c = first_by c.args.h c.args.uid _ (counted c)
 
-far_told : (c : After-neighbour_of-far) → let a = c.args in
+far_told : (c : After-unwrap-far) → let a = c.args in
     let first = a.uid / c.size_of-count.result * c.size_of-count.result in
-    c.neighbour_of-far.result.uid ≡ neighbour a.h.n (a.level - 1) first
-far_told c = ap (λ (r : Neighbour). r.uid) c.neighbour_of-far.ensures
-    ∙ neighbour_told _ _ _ c.requires.0 (rw (first_by c.args.h c.args.uid _ (cell_size_lem _ _ c.requires.0 c.size_of-count.ensures)) (first_in_lem c.args.h c.requires.0 c.args.uid c.args.level c.requires.1 c.requires.2 c.requires.3)) (omega (arith, c.requires.2)) c.requires.3
+    c.unwrap-far.result ≡ neighbour a.h.n (a.level - 1) first
+far_told c = neighbour_is _ _ _ c.requires.0 (rw (first_by c.args.h c.args.uid _ (cell_size_lem _ _ c.requires.0 c.size_of-count.ensures)) (first_in_lem c.args.h c.requires.0 c.args.uid c.args.level c.requires.1 c.requires.2 c.requires.3)) (omega (arith, c.requires.2)) c.requires.3
+    _ _ c.neighbour_of.ensures c.unwrap-far.ensures
 
-some : (c : After-neighbour_of-far) → 0 < c.size_of-size.result
+some : (c : After-unwrap-far) → 0 < c.size_of-size.result
 some c = size_some c.args.h c.requires.0 c.args.uid c.args.level c.requires.1 c.requires.2 c.requires.3 _ _ _ _ (cell_size_lem _ _ c.requires.0 c.size_of-count.ensures) (size_of_lem _ _ _ c.requires.0 (omega (arith, c.requires.3)) c.size_of-size.ensures) (first_by c.args.h c.args.uid _ (cell_size_lem _ _ c.requires.0 c.size_of-count.ensures)) (far_told c)
 
 -- the next place is in the room
@@ -46,11 +46,18 @@ stands_in c =
 pub nonzero_div-first : goal.nonzero_div-first
 nonzero_div-first c = omega (arith, counted (goal.at.nonzero_div-first c).After-struct_known-1, size_pos _ (valid_known _ c.requires.0))
 
+pub unwrap-far-requires : goal.unwrap-far-requires
+unwrap-far-requires c =
+    let n = c.size_of-count.result in
+    let low : c.args.uid / n * n < servers c.args.h =
+    rw (first_is (goal.at.unwrap-far-requires c).After-struct_known-1) (first_in_lem c.args.h c.requires.0 c.args.uid c.args.level c.requires.1 c.requires.2 c.requires.3) in
+    neighbour_known _ _ _ c.requires.0 low (omega (arith, c.requires.2)) c.requires.3 _ c.neighbour_of.ensures
+
 pub nonzero_rem-inside : goal.nonzero_rem-inside
-nonzero_rem-inside c = some (goal.at.nonzero_rem-inside c).After-neighbour_of-far
+nonzero_rem-inside c = some (goal.at.nonzero_rem-inside c).After-unwrap-far
 
 pub nonzero_div-sub : goal.nonzero_div-sub
-nonzero_div-sub c = some (goal.at.nonzero_div-sub c).After-neighbour_of-far
+nonzero_div-sub c = some (goal.at.nonzero_div-sub c).After-unwrap-far
 
 pub overflow_add-sub : goal.overflow_add-sub
 overflow_add-sub c = omega (arith, sized (goal.at.overflow_add-sub c).After-struct_known-1, valid_size c.args.h (valid_known c.args.h c.requires.0) (c.args.level - 1) (omega (arith, c.requires.3)))
@@ -61,8 +68,8 @@ loop-p-init c = refl
 
 pub far_behind-requires : goal.far_behind-requires
 far_behind-requires c =
-    let m = mod-lt (c.args.uid / c.size_of-count.result * c.size_of-count.result) (some (goal.at.far_behind-requires c).After-neighbour_of-far) in
-    let f = far_fits c.args.h c.requires.0 c.args.uid c.args.level c.requires.1 c.requires.2 c.requires.3 _ _ _ _ (counted (goal.at.far_behind-requires c).After-struct_known-1) (sized (goal.at.far_behind-requires c).After-struct_known-1) (first_is (goal.at.far_behind-requires c).After-struct_known-1) (far_told (goal.at.far_behind-requires c).After-neighbour_of-far)
+    let m = mod-lt (c.args.uid / c.size_of-count.result * c.size_of-count.result) (some (goal.at.far_behind-requires c).After-unwrap-far) in
+    let f = far_fits c.args.h c.requires.0 c.args.uid c.args.level c.requires.1 c.requires.2 c.requires.3 _ _ _ _ (counted (goal.at.far_behind-requires c).After-struct_known-1) (sized (goal.at.far_behind-requires c).After-struct_known-1) (first_is (goal.at.far_behind-requires c).After-struct_known-1) (far_told (goal.at.far_behind-requires c).After-unwrap-far)
     c.loop-p.p c.loop-p-test.true in
     (omega (arith, m, c.loop-p-test.true, counted (goal.at.far_behind-requires c).After-struct_known-1, cell_few c.args.h c.requires.0, sized (goal.at.far_behind-requires c).After-struct_known-1, valid_size c.args.h (valid_known c.args.h c.requires.0) (c.args.level - 1) (omega (arith, c.requires.3))), omega (arith, f))
 
@@ -76,7 +83,7 @@ pub loop-p-preserved : goal.loop-p-preserved
 unfolding spread
 loop-p-preserved c =
     let l = c.loop-p in
-    let f = far_is c.args.h c.requires.0 c.args.uid c.args.level c.requires.1 c.requires.2 c.requires.3 _ _ _ _ (counted (goal.at.loop-p-preserved c).After-struct_known-1) (sized (goal.at.loop-p-preserved c).After-struct_known-1) (first_is (goal.at.loop-p-preserved c).After-struct_known-1) (far_told (goal.at.loop-p-preserved c).After-neighbour_of-far)
+    let f = far_is c.args.h c.requires.0 c.args.uid c.args.level c.requires.1 c.requires.2 c.requires.3 _ _ _ _ (counted (goal.at.loop-p-preserved c).After-struct_known-1) (sized (goal.at.loop-p-preserved c).After-struct_known-1) (first_is (goal.at.loop-p-preserved c).After-struct_known-1) (far_told (goal.at.loop-p-preserved c).After-unwrap-far)
     l.p c.loop-p-test.true in
     let r = far_read c.args.h c.args.table.now (first_of c.args.h c.args.uid + l.p) c.args.level _ c.code_at.result c.code_at.ensures (c.far_behind.ensures ∙ f) in
     rw (l.invariant, r, add-one l.p)
