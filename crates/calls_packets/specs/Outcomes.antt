@@ -5,7 +5,7 @@ use Rattle.combine.specs.Tests.{pick}
 use Rattle.hall.specs.declared.Hall.{Hall}
 use Rattle.local.specs.declared.Distances.{Distances}
 use Rattle.local.specs.declared.NextHop.{NextHop}
-use Rattle.forward.specs.declared.Journey.{Journey}
+use Rattle.forward.specs.Answers.{JourneyAnswer}
 use Rattle.broadcast.specs.declared.Broadcast.{Broadcast}
 use Rattle.broadcast.specs.Broadcasts.{broadcast_of, room_of}
 use Rattle.frame.specs.Reading.{read_frame, payload_of}
@@ -35,8 +35,8 @@ abbrev pub of_payload : List ℕ → Outcome
 of_payload frame = ((read_frame frame).refusal, payload_of frame)
 
 -- the uids that a journey passed, and its counts
-abbrev pub of_passed : Journey → Outcome
+abbrev pub of_passed : JourneyAnswer → Outcome
 of_passed a = (a.refusal, a.uids)
 
-abbrev pub of_counts : Journey → Outcome
+abbrev pub of_counts : JourneyAnswer → Outcome
 of_counts a = (a.refusal, a.ending ∷ a.links ∷ a.reroutes ∷ [])

@@ -5,7 +5,7 @@ use Rattle.combine.specs.Tests.{pick}
 use Rattle.route.specs.declared.Route.{Route}
 use Rattle.frame.specs.declared.Header.{Header}
 use Rattle.header.specs.declared.Fields.{Fields}
-use Rattle.forward.specs.declared.Step.{Step}
+use Rattle.forward.specs.Packets.{StepAnswer}
 use Rattle.hall.specs.Rooms.{Outcome}
 use Rattle.words.specs.Words.{words_bytes}
 
@@ -42,7 +42,7 @@ fields_of protocol length identification retry ttl source destination flag proxy
 }
 
 -- a step: its ending, the next uid, the packet to send on, its reroutes
-abbrev pub of_step : Step → Outcome
+abbrev pub of_step : StepAnswer → Outcome
 of_step a = (
   a.refusal,
   words_bytes (

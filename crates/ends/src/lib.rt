@@ -107,9 +107,11 @@ fn count_port(h: Hall, here: bool, uid: u32, port: u32, room: &mut [u8], at: usi
 {
     let count = hall::size_of(h, h.b);
     let first = uid / count * count;
+    // Where the next code stands goes on by a step: worked out from its place it takes more instructions.
+    let mut next = at;
     for p in 0..count {
-        let place = at + (p as usize) * step;
-        room[place] = code_counted(h, here, first + p, port, room[place]);
+        room[next] = code_counted(h, here, first + p, port, room[next]);
+        next += step;
     }
 }
 

@@ -21,7 +21,7 @@ use Rattle.ends.specs.Tables.{step_table, cell_part, far_place, far_in, lent_cou
 use Rattle.ends.proofs.Tables.{step_ups}
 use Rattle.ends.proofs.Lent.{lent_ups}
 use Rattle.forward.specs.declared.Packet.{Packet}
-use Rattle.forward.specs.declared.Step.{Step}
+use Rattle.forward.specs.Packets.{StepAnswer}
 use Rattle.forward.specs.Packets.{forwarded, tidied}
 use Rattle.forward.specs.Seen.{Seen, usable, seen}
 use Rattle.forward.specs.Steps.{step_on, step}
@@ -83,13 +83,13 @@ module _ (h : Hall) (a b : List ℕ) (same : SameUps a b) where
   step_agrees me p = step_same h (seen h a) (seen h b) me (tidied p) seen_agree
 
 -- two steps that agree, wherever a packet that one of them forwards may come, make the same journey
-module _ (f g : ℕ → Packet → Step) (I : ℕ → Packet → Type 0) (agree : (me : ℕ) (p : Packet) → I me p → f me p ≡ g me p)
+module _ (f g : ℕ → Packet → StepAnswer) (I : ℕ → Packet → Type 0) (agree : (me : ℕ) (p : Packet) → I me p → f me p ≡ g me p)
     (keeps : (me : ℕ) (p : Packet) → I me p → (g me p).ending ≡ forwarded → I (g me p).next (g me p).packet) where
   pub trip_on_same : (ttl me : ℕ) (p : Packet) → I me p → trip_on ttl f me p ≡ trip_on ttl g me p
   unfolding trip_on
   trip_on_same zero me p i = ap (ends_at me) (agree me p i)
   trip_on_same (suc ttl) me p i =
-      ap (λ (o : Step). pick (eqb o.ending forwarded) (goes_on me o (trip_on ttl f o.next o.packet)) (ends_at me o)) (agree me p i)
+      ap (λ (o : StepAnswer). pick (eqb o.ending forwarded) (goes_on me o (trip_on ttl f o.next o.packet)) (ends_at me o)) (agree me p i)
       ∙ cases (eqb (g me p).ending forwarded)
       (λ e. rw e (ap (goes_on me (g me p)) (trip_on_same ttl (g me p).next (g me p).packet (keeps me p i (eqb-true (g me p).ending forwarded e)))))
       (λ e. rw e)

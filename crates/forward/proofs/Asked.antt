@@ -14,12 +14,11 @@ use Rattle.hall.specs.Cells.{same, neighbour}
 use Rattle.hall.specs.Halls.{valid, servers}
 use Rattle.hall.proofs.Growth.{valid_known}
 use Rattle.route.specs.declared.Crossing.{Crossing}
-use Rattle.route.specs.declared.Crossing.TheVariants.{Link, Nothing}
 use Rattle.route.specs.Answers.{first_link}
 use Rattle.local.specs.Local.{none, cell_size, place_of, first_of}
 use Rattle.local.proofs.Sizes.{place_fits}
 use Rattle.forward.specs.declared.Packet.{Packet}
-use Rattle.forward.specs.declared.Step.{Step}
+use Rattle.forward.specs.Packets.{StepAnswer}
 use Rattle.forward.specs.declared.Candidate.{Candidate}
 use Rattle.forward.specs.Packets.{drop_route, cleared, proxied, retried, goal, sent, ended, one_more}
 use Rattle.forward.specs.Seen.{Seen}
@@ -65,12 +64,12 @@ module _ (h : Hall) (is_valid : valid h ≡ true) (me : ℕ) (here : me < server
       (λ l a b. best_same o l (cell_size h) (omega arith) (omega arith) (omega arith))
 
   -- a first link, where there is one, is of a level from b + 1 to k
-  Known : Crossing → Type 0
-  Known Nothing = Unit {0}
-  Known (Link n1 n2 m) = (h.b < m) × (m ≤ h.k)
+  Known : Option Crossing → Type 0
+  Known None = Unit {0}
+  Known (Some link) = (h.b < link.level) × (link.level ≤ h.k)
 
   -- towards what is no server of the hall there is no link
-  none_outside : (to : ℕ) → ltb to (servers h) ≡ false → first_link h me to ≡ Nothing
+  none_outside : (to : ℕ) → ltb to (servers h) ≡ false → first_link h me to ≡ None
   unfolding first_link
   none_outside to e = rw (is_valid, lt-ltb me (servers h) here, e)
 
@@ -80,27 +79,27 @@ module _ (h : Hall) (is_valid : valid h ≡ true) (me : ℕ) (here : me < server
       (λ e. go (ltb-true to (servers h) e) (first_link h me to) refl)
       (λ e. rw (none_outside to e) tt)
     where
-      go : to < servers h → (l : Crossing) → first_link h me to ≡ l → Known l
-      go there Nothing e = tt
-      go there (Link n1 n2 m) e = let a = link_ahead h is_valid me to here there e in (omega (arith, a.level, a.low), omega (arith, a.level, a.high))
+      go : to < servers h → (l : Option Crossing) → first_link h me to ≡ l → Known l
+      go there None e = tt
+      go there (Some link) e = let a = link_ahead h is_valid me to here there e in (omega (arith, a.level, a.low), omega (arith, a.level, a.high))
 
   module _ (came : Packet) where
     -- reroutes that agree on such links
     Same : Reroute → Reroute → Type 0
-    Same r q = (link : Crossing) (p : Packet) (arrived : Bool) → Known link → r link p arrived ≡ q link p arrived
+    Same r q = (link : Option Crossing) (p : Packet) (arrived : Bool) → Known link → r link p arrived ≡ q link p arrived
 
     module _ (r q : Reroute) (e : Same r q) where
-      across_same : (p : Packet) (arrived : Bool) (link : Crossing) → Known link → across h s me came r p arrived link ≡ across h z me came q p arrived link
+      across_same : (p : Packet) (arrived : Bool) (link : Option Crossing) → Known link → across h s me came r p arrived link ≡ across h z me came q p arrived link
       unfolding Same Known reachable
-      across_same p arrived Nothing k =
-          ap (λ (o : Step). pick (not (eqb (distance (place_of h (goal p)) (place_of h me)) none)) (sent (first_of h me + hop (place_of h me) (place_of h (goal p))) p)
-          (pick (same h.n h.b me came.dst) (ended drop_route came) o)) (e Nothing p arrived tt)
-      across_same p arrived (Link n1 n2 m) k =
-          let way : Step → Step = λ (o : Step). pick (not (eqb (distance (place_of h n1) (place_of h me)) none)) (sent (first_of h me + hop (place_of h me) (place_of h n1)) p)
+      across_same p arrived None k =
+          ap (λ (o : StepAnswer). pick (not (eqb (distance (place_of h (goal p)) (place_of h me)) none)) (sent (first_of h me + hop (place_of h me) (place_of h (goal p))) p)
+          (pick (same h.n h.b me came.dst) (ended drop_route came) o)) (e None p arrived tt)
+      across_same p arrived (Some link) k =
+          let way : StepAnswer → StepAnswer = λ (o : StepAnswer). pick (not (eqb (distance (place_of h link.near) (place_of h me)) none)) (sent (first_of h me + hop (place_of h me) (place_of h link.near)) p)
           (pick (same h.n h.b me came.dst) (ended drop_route came) o) in
-          ap (λ (b : Bool). pick b (pick (eqb me n1) (sent n2 p) (way (r (Link n1 n2 m) p arrived))) (r (Link n1 n2 m) p arrived))
-          (agree m (place_of h n1) (place_fits h (valid_known h is_valid) n1) k.0 k.1)
-          ∙ ap (λ (o : Step). pick (after m (place_of h n1)) (pick (eqb me n1) (sent n2 p) (way o)) o) (e (Link n1 n2 m) p arrived k)
+          ap (λ (b : Bool). pick b (pick (eqb me link.near) (sent link.far p) (way (r (Some link) p arrived))) (r (Some link) p arrived))
+          (agree link.level (place_of h link.near) (place_fits h (valid_known h is_valid) link.near) k.0 k.1)
+          ∙ ap (λ (o : StepAnswer). pick (after link.level (place_of h link.near)) (pick (eqb me link.near) (sent link.far p) (way o)) o) (e (Some link) p arrived k)
 
       from_same : (p : Packet) (arrived : Bool) → from4 h s me came r p arrived ≡ from4 h z me came q p arrived
       from_same p arrived = across_same p arrived (first_link h me (goal p)) (first_known (goal p))
@@ -113,12 +112,12 @@ module _ (h : Hall) (is_valid : valid h ≡ true) (me : ℕ) (here : me < server
     unfolding Same reroute_on first_level Known
     reroute_same zero link p arrived k = refl
     reroute_same (suc zero) link p arrived k = refl
-    reroute_same (suc (suc f)) Nothing p arrived k =
+    reroute_same (suc (suc f)) None p arrived k =
         ap one_more (from_same (reroute_on h s me came (suc f)) (reroute_on h z me came (suc f)) (reroute_same (suc f)) (cleared (retried (suc f) p)) false)
-    reroute_same (suc (suc f)) (Link n1 n2 m) p arrived k =
-        ap (set_proxy h s me came (reroute_on h s me came (suc f)) (retried (suc f) p)) (choice_same (place_of h me) (first_level h s me came m arrived) (omega (arith, k.0)))
+    reroute_same (suc (suc f)) (Some link) p arrived k =
+        ap (set_proxy h s me came (reroute_on h s me came (suc f)) (retried (suc f) p)) (choice_same (place_of h me) (first_level h s me came link.level arrived) (omega (arith, k.0)))
         ∙ set_same (reroute_on h s me came (suc f)) (reroute_on h z me came (suc f)) (reroute_same (suc f)) (retried (suc f) p)
-        (choice h z (place_of h me) (first_level h s me came m arrived))
+        (choice h z (place_of h me) (first_level h s me came link.level arrived))
 
     from_retry : (p : Packet) (arrived : Bool) → step_from h s me came p arrived ≡ step_from h z me came p arrived
     unfolding step_from

@@ -17,8 +17,8 @@ use Rattle.ports.specs.Answers.{asks_table}
 use Rattle.ends.specs.Tables.{step_length}
 use Rattle.hall.proofs.Growth.{no_servers, some_servers, valid_servers}
 use Rattle.forward.specs.declared.Packet.{Packet}
-use Rattle.forward.specs.declared.Step.{Step}
-use Rattle.forward.specs.declared.Journey.{Journey}
+use Rattle.forward.specs.Packets.{StepAnswer}
+use Rattle.forward.specs.Answers.{JourneyAnswer}
 use Rattle.forward.specs.Steps.{step}
 use Rattle.forward.specs.Journeys.{trip}
 use Rattle.forward.specs.Answers.{asks_lent, asks_packet, refused_step, step_of, journey_from, refused_journey, journey_of}
@@ -97,10 +97,10 @@ module _ (h : Hall) (count : ℕ) (e : count ≡ pick (valid h) (servers h) 0) (
 
 -- what a step answers behind its refusals
 module _ (h : Hall) (me : ℕ) (p : Packet) (table : List ℕ) (r : ℕ) (e : r ≡ refusal (asks_hall h ∷ asks_lent h table ∷ asks_packet h me p)) where
-  pub step_refused : (r ≡ 0 → ⊥) → (o : Step) → o ≡ refused_step r → o ≡ step_of h me p table
+  pub step_refused : (r ≡ 0 → ⊥) → (o : StepAnswer) → o ≡ refused_step r → o ≡ step_of h me p table
   step_refused ne o q = rw (← e, ne_eqb r 0 ne) q
 
-  pub step_answered : r ≡ 0 → (o : Step) → o ≡ step h (lent_counted h me table) me p → o ≡ step_of h me p table
+  pub step_answered : r ≡ 0 → (o : StepAnswer) → o ≡ step h (lent_counted h me table) me p → o ≡ step_of h me p table
   step_answered z o q = rw (← e, z) q
 
   pub step_sound : r ≡ 0 → Here h false table me × Sound h p
@@ -110,10 +110,10 @@ module _ (h : Hall) (me : ℕ) (p : Packet) (table : List ℕ) (r : ℕ) (e : r 
 
 -- what a journey answers behind its refusals
 module _ (h : Hall) (me : ℕ) (p : Packet) (table : List ℕ) (r : ℕ) (e : r ≡ refusal (asks_hall h ∷ asks_table h table ∷ asks_packet h me p)) where
-  pub journey_refused : (r ≡ 0 → ⊥) → (j : Journey) → j ≡ refused_journey r → j ≡ journey_of h me p table
+  pub journey_refused : (r ≡ 0 → ⊥) → (j : JourneyAnswer) → j ≡ refused_journey r → j ≡ journey_of h me p table
   journey_refused ne j q = rw (← e, ne_eqb r 0 ne) q
 
-  pub journey_answered : r ≡ 0 → (j : Journey) → j ≡ journey_from (trip h (counted h 0 table) me p) → j ≡ journey_of h me p table
+  pub journey_answered : r ≡ 0 → (j : JourneyAnswer) → j ≡ journey_from (trip h (counted h 0 table) me p) → j ≡ journey_of h me p table
   journey_answered z j q = rw (← e, z) q
 
   pub journey_sound : r ≡ 0 → Departing h table me p

@@ -1,29 +1,26 @@
 -- The search for a proxy by level, then distance, then uid: the first that it meets is the choice.
 use mathlib.Core.Path.{◌≡◌, refl, sym, ◌∙◌, ap}
 use mathlib.Core.Bool.{Bool, true, false, not, false≢true}
-use mathlib.Core.List.{List, [], ◌∷◌}
+use mathlib.Core.List.{List}
 use mathlib.Core.Logic.{⊎_elim}
-use Prim.Native.Nat.{ℕ, zero, suc, ◌+◌, ◌-◌, ◌<◌, ◌≤◌, max}
+use Prim.Native.Nat.{ℕ, suc, ◌+◌, ◌-◌, ◌<◌, ◌≤◌}
 use native.Mathlib.Nat.{eq-or-lt_of_le}
-use native.Mathlib.Numerals.{add-one, unary_clauses}
+use native.Mathlib.Numerals.{add-one}
 use native.Mathlib.Omega.{arith}
 use lib.Dec.{eqb, ltb}
-use lib.ListN.{length, get_or, take}
-use lib.Seq.{get_or-take}
-use borrow.Author.Tests.{eq-eqb, ne_eqb, lt-ltb, ltb-true, ltb-false, eqb-true, eqb-false}
-use Rattle.std.proofs.Common.{Option, Some, None}
-use Rattle.std.specs.List.{filter, fold, reduce}
-use Rattle.std.specs.Option.{unwrap_or}
+use lib.ListN.{length, get_or}
+use borrow.Author.Tests.{eq-eqb, ne_eqb, ltb-true, ltb-false, eqb-true, eqb-false}
+use Rattle.std.proofs.Common.{Option, Some, None, Result, Ok, IsOk}
 use Rattle.combine.specs.Tests.{both}
 use Rattle.combine.proofs.Tests.{cases, never, both_left, both_right, both_true}
 use Rattle.hall.specs.declared.Hall.{Hall}
-use Rattle.hall.specs.Refusals.{refusal}
-use Rattle.hall.specs.Halls.{servers}
+use Rattle.hall.specs.declared.refusals.Refusal.{Refusal}
 use Rattle.hall.proofs.Growth.{valid_known}
 use Rattle.ports.specs.Codes.{cell_length}
 use Rattle.local.specs.declared.Distances.{Distances}
-use Rattle.local.specs.Local.{none, cell_size, place_of, record_from, distance}
-use Rattle.local.specs.Answers.{distances_of}
+use Rattle.local.specs.Local.{none, cell_size, place_of, counting, record_from, distance}
+use Rattle.local.specs.Answers.{distances_of, distances_stated}
+use Rattle.local.proofs.Stated.{distances_known, distances_are}
 use Rattle.local.proofs.Linked.{record_at}
 use Rattle.local.proofs.Distance.{local_bounded}
 use Rattle.local.proofs.Sizes.{size_fits, place_fits}
@@ -104,34 +101,6 @@ none_behind s me i q last d x e small far l low =
     (eq-or-lt_of_le small))
     (λ w. w)
 
--- the greatest of those distances that are there: no less than what it began with, and there too
-greatest : (most : ℕ) (xs : List ℕ) → most < none → (most ≤ fold max most (filter (λ d. ltb d none) xs)) × (fold max most (filter (λ d. ltb d none) xs) < none)
-greatest most [] l = (omega arith, l)
-greatest most (x ∷ xs) l = cases (ltb x none)
-    (λ e. let w = greatest (max most x) xs (omega (arith, ltb-true x none e)) in rw e (omega (arith, w.0), w.1))
-    (λ e. rw e (greatest most xs l))
-
--- and no less than each of them
-greatest_each : (most : ℕ) (xs : List ℕ) (q : ℕ) → most < none → get_or xs q 0 < none → get_or xs q 0 ≤ fold max most (filter (λ d. ltb d none) xs)
-greatest_each most [] q l w = omega arith
-greatest_each most (x ∷ xs) zero l w = rw (lt-ltb x none w) (omega (arith, (greatest (max most x) xs (omega arith)).0))
-greatest_each most (x ∷ xs) (suc q) l w = cases (ltb x none)
-    (λ e. rw e (greatest_each (max most x) xs q (omega (arith, ltb-true x none e)) w))
-    (λ e. rw e (greatest_each most xs q l w))
-
-greatest_told : (xs : List ℕ) → unwrap_or (reduce max xs) 0 ≡ fold max 0 xs
-greatest_told [] = refl
-greatest_told (x ∷ xs) = simp unary_clauses refl
-
--- the greatest among the first places of a record
-pub greatest_bounds : (distance : List ℕ) (count most : ℕ) → most ≡ unwrap_or (reduce max (filter (λ d. ltb d none) (take count distance))) 0
-    → (most < none) × ((q : ℕ) → q < count → get_or distance q 0 < none → get_or distance q 0 ≤ most)
-greatest_bounds distance count most e =
-    let f = e ∙ greatest_told (filter (λ d. ltb d none) (take count distance)) in (
-      rw f (greatest 0 (take count distance) (omega arith)).1,
-      λ q l w. let t = get_or-take {A = ℕ} count distance q 0 l in rw (f, ← t) (greatest_each 0 (take count distance) q (omega arith) (rw t w)),
-    )
-
 -- a search that goes up by one level: what is left of it
 module _ (find : ℕ → Option Candidate) (n l : ℕ) where
   found_step : l < n → first_found find (n - l) l ≡ or_else (find l) (first_found find (n - (l + 1)) (l + 1))
@@ -158,30 +127,34 @@ choice_whole h s me m = refl
 
 -- the record of distances from a server of a sound hall
 module _ {whole : Bool} (h : Hall) (table : List ℕ) (me : ℕ) (a : Here h whole table me) (part : List ℕ) (o : part ≡ cell_part h (held h whole table me))
-    (from : Distances) (e : from ≡ distances_of h me part) where
+    (r : Result Distances Refusal) (e : distances_stated r ≡ distances_of h me part) where
   abbrev own : List ℕ
   own = cell_part h (lent h whole table me)
 
-  told : from ≡ record { refusal = 0; origin = me; count = cell_size h; distance = record_from h own (place_of h me) }
-  unfolding refusal
-  told =
-      e ∙ ap (distances_of h me) o
-      ∙ rw (a.sound, eq-eqb (length (cell_part h (held h whole table me))) (cell_length h h.b) (own_long h whole table me a), lt-ltb me (servers h) a.fits, counting_own h whole table me a)
+  long : length part ≡ cell_length h h.b
+  long = ap length o ∙ own_long h whole table me a
 
-  pub count_is : from.count ≡ cell_size h
-  count_is = ap (λ (d : Distances). d.count) told
+  pub distances_there : IsOk r
+  distances_there = distances_known h me part a.sound long a.fits r e
 
-  pub count_fits : from.count ≤ 72
-  count_fits = omega (arith, count_is, size_fits h (valid_known h a.sound))
+  module _ (from : Distances) (q : r ≡ Ok from) where
+    told : from ≡ record { origin = me; count = cell_size h; distance = record_from h own (place_of h me) }
+    told = distances_are h me part a.sound long a.fits r from e q ∙ ap (λ (l : List ℕ). record { origin = me; count = cell_size h; distance = record_from h l (place_of h me) }) (ap (counting h me) o ∙ counting_own h whole table me a)
 
-  pub distance_is : (place : ℕ) → place < from.count → get_or from.distance place 0 ≡ distance h (cell_part h (lent h whole table me)) (place_of h me) place
-  unfolding distance
-  distance_is place l =
-      ap (λ (d : Distances). get_or d.distance place 0) told ∙ record_at h own (place_of h me) place (omega (arith, count_is))
+    pub count_is : from.count ≡ cell_size h
+    count_is = ap (λ (d : Distances). d.count) told
 
-  pub distance_small : (place : ℕ) → place < from.count → distance h (cell_part h (lent h whole table me)) (place_of h me) place ≤ none
-  distance_small place l =
-      let v = valid_known h a.sound in
-      let f = size_fits h v in
-      ⊎_elim (λ (q : distance h own (place_of h me) place ≡ none). omega arith) (λ (q : distance h own (place_of h me) place < cell_size h). omega arith)
-      (local_bounded h own v (place_of h me) place (place_fits h v me) (omega (arith, count_is)))
+    pub count_fits : from.count ≤ 72
+    count_fits = omega (arith, count_is, size_fits h (valid_known h a.sound))
+
+    pub distance_is : (place : ℕ) → place < from.count → get_or from.distance place 0 ≡ distance h (cell_part h (lent h whole table me)) (place_of h me) place
+    unfolding distance
+    distance_is place l =
+        ap (λ (d : Distances). get_or d.distance place 0) told ∙ record_at h own (place_of h me) place (omega (arith, count_is))
+
+    pub distance_small : (place : ℕ) → place < from.count → distance h (cell_part h (lent h whole table me)) (place_of h me) place ≤ none
+    distance_small place l =
+        let v = valid_known h a.sound in
+        let f = size_fits h v in
+        ⊎_elim (λ (q : distance h own (place_of h me) place ≡ none). omega arith) (λ (q : distance h own (place_of h me) place < cell_size h). omega arith)
+        (local_bounded h own v (place_of h me) place (place_fits h v me) (omega (arith, count_is)))

@@ -15,16 +15,17 @@ use Rattle.hall.specs.declared.Hall.{Hall}
 use Rattle.hall.specs.Cells.{cell, same, neighbour}
 use Rattle.hall.specs.Halls.{valid, top, servers, largest}
 use Rattle.hall.proofs.Growth.{Valid, valid_known, uid_fits}
-use Rattle.cells.specs.declared.Neighbour.{Neighbour}
+use Rattle.std.proofs.Common.{Result, Ok, IsOk}
+use Rattle.hall.specs.declared.refusals.Refusal.{Refusal}
+use Rattle.cells.specs.Answers.{neighbour_stated}
+use Rattle.cells.proofs.Stated.{neighbour_known, neighbour_is}
 use Rattle.cells.specs.Answers.{neighbour_of}
-use Rattle.cells.proofs.Asks.{neighbour_told}
 use Rattle.route.specs.declared.Crossing.{Crossing}
-use Rattle.route.specs.declared.Crossing.TheVariants.{Link, Nothing}
-use Rattle.route.specs.Answers.{first_link}
+use Rattle.route.specs.Answers.{link_of, first_link}
 use Rattle.local.specs.Local.{none, cell_size, place_of, first_of}
 use Rattle.local.proofs.Uids.{uid_within}
 use Rattle.forward.specs.declared.Packet.{Packet}
-use Rattle.forward.specs.declared.Step.{Step}
+use Rattle.forward.specs.Packets.{StepAnswer}
 use Rattle.forward.specs.declared.Way.{Way}
 use Rattle.forward.specs.declared.Way.TheVariants.{To, Closed, Unreached}
 use Rattle.forward.specs.declared.Outlook.{Outlook}
@@ -51,32 +52,32 @@ again_retry : (h : Hall) (me : ℕ) (p : Packet) (found : Option Candidate) (r :
 again_retry h me p None r e = absurd (let w : ◌≡◌ {A = ℕ} 0 1 = cc in omega arith)
 again_retry h me p (Some c) r e = ap (λ (x : Packet). x.retry) (again_one e)
 
-pub turn_retry : (h : Hall) (s : Seen) (me : ℕ) (link : Crossing) (p : Packet) (arrived : Bool) (r : Packet)
+pub turn_retry : (h : Hall) (s : Seen) (me : ℕ) (link : Option Crossing) (p : Packet) (arrived : Bool) (r : Packet)
     → turn_of h s me link p arrived ≡ Some r → r.retry ≡ p.retry
 unfolding turn_of
-turn_retry h s me Nothing p arrived r e = ap (λ (x : Packet). x.retry) (again_one e)
-turn_retry h s me (Link n1 n2 m) p arrived r e = again_retry h me p (choice h s (place_of h me) (m + pick (both arrived (ltb m h.k)) 1 0)) r e
+turn_retry h s me None p arrived r e = ap (λ (x : Packet). x.retry) (again_one e)
+turn_retry h s me (Some link) p arrived r e = again_retry h me p (choice h s (place_of h me) (link.level + pick (both arrived (ltb link.level h.k)) 1 0)) r e
 
 module _ (h : Hall) (s : Seen) (me : ℕ) (came : Packet) where
   -- 4 to 10 by what lies before the packet
-  abbrev on_outlook : Reroute → Packet → Bool → Outlook → Step
+  abbrev on_outlook : Reroute → Packet → Bool → Outlook → StepAnswer
   on_outlook reroute p arrived (Next u) = sent u p
   on_outlook reroute p arrived NoRoute = ended drop_route came
   on_outlook reroute p arrived (Blocked link) = reroute link p arrived
 
-  across_outlook : (reroute : Reroute) (p : Packet) (arrived : Bool) (link : Crossing)
+  across_outlook : (reroute : Reroute) (p : Packet) (arrived : Bool) (link : Option Crossing)
       → across h s me came reroute p arrived link
       ≡ on_outlook reroute p arrived (outlook_by h me came.dst link (way_over h s me (goal p) link))
   unfolding way_over way_to reachable
-  across_outlook reroute p arrived Nothing =
+  across_outlook reroute p arrived None =
       cases (eqb (s.distance (place_of h (goal p)) (place_of h me)) none)
       (λ e. cases (same h.n h.b me came.dst) (λ n. rw (e, n)) (λ n. rw (e, n)))
       (λ e. rw e)
-  across_outlook reroute p arrived (Link n1 n2 m) =
-      cases (s.usable m (place_of h n1))
-      (λ u. cases (eqb me n1)
+  across_outlook reroute p arrived (Some link) =
+      cases (s.usable link.level (place_of h link.near))
+      (λ u. cases (eqb me link.near)
       (λ q. rw (u, q))
-      (λ q. cases (eqb (s.distance (place_of h n1) (place_of h me)) none)
+      (λ q. cases (eqb (s.distance (place_of h link.near) (place_of h me)) none)
       (λ e. cases (same h.n h.b me came.dst) (λ n. rw (u, q, e, n)) (λ n. rw (u, q, e, n)))
       (λ e. rw (u, q, e))))
       (λ u. rw u)
@@ -86,23 +87,23 @@ module _ (h : Hall) (s : Seen) (me : ℕ) (came : Packet) where
     unfolding step_from outlook_of
     by_outlook = across_outlook (reroute_on h s me came p.retry) p arrived (first_link h me (goal p)) ∙ rw is
 
-    pub step_goes : (u : ℕ) (z : Step) → o ≡ Next u → z ≡ sent u p → z ≡ step_from h s me came p arrived
+    pub step_goes : (u : ℕ) (z : StepAnswer) → o ≡ Next u → z ≡ sent u p → z ≡ step_from h s me came p arrived
     step_goes u z e q = q ∙ sym (by_outlook ∙ rw e)
 
-    pub step_drops : (z : Step) → o ≡ NoRoute → z ≡ ended drop_route came → z ≡ step_from h s me came p arrived
+    pub step_drops : (z : StepAnswer) → o ≡ NoRoute → z ≡ ended drop_route came → z ≡ step_from h s me came p arrived
     step_drops z e q = q ∙ sym (by_outlook ∙ rw e)
 
-    pub step_blocked : (link : Crossing) (z : Step) → o ≡ Blocked link → z ≡ reroute_on h s me came p.retry link p arrived
+    pub step_blocked : (link : Option Crossing) (z : StepAnswer) → o ≡ Blocked link → z ≡ reroute_on h s me came p.retry link p arrived
         → z ≡ step_from h s me came p arrived
     step_blocked link z e q = q ∙ sym (by_outlook ∙ rw e)
 
-  pub reroute_last : (n : ℕ) (link : Crossing) (p : Packet) (arrived : Bool) → n ≤ 1 → reroute_on h s me came n link p arrived ≡ ended drop_retry came
+  pub reroute_last : (n : ℕ) (link : Option Crossing) (p : Packet) (arrived : Bool) → n ≤ 1 → reroute_on h s me came n link p arrived ≡ ended drop_retry came
   unfolding reroute_on
   reroute_last zero link p arrived l = refl
   reroute_last (suc zero) link p arrived l = refl
   reroute_last (suc (suc f)) link p arrived l = absurd (omega arith)
 
-  reroute_more : (n : ℕ) (link : Crossing) (p : Packet) (arrived : Bool) → 1 < n
+  reroute_more : (n : ℕ) (link : Option Crossing) (p : Packet) (arrived : Bool) → 1 < n
       → reroute_on h s me came n link p arrived ≡ rerouted h s me came (reroute_on h s me came (n - 1)) link (retried (n - 1) p) arrived
   unfolding reroute_on
   reroute_more zero link p arrived l = absurd (omega arith)
@@ -110,7 +111,7 @@ module _ (h : Hall) (s : Seen) (me : ℕ) (came : Packet) where
   reroute_more (suc (suc f)) link p arrived l = rw (sub-one (suc (suc f)))
 
   -- the reroute by what it makes of the packet
-  abbrev on_turn : Reroute → Option Packet → Step
+  abbrev on_turn : Reroute → Option Packet → StepAnswer
   on_turn reroute None = ended drop_proxy came
   on_turn reroute (Some r) = one_more (from4 h s me came reroute r false)
 
@@ -118,23 +119,23 @@ module _ (h : Hall) (s : Seen) (me : ℕ) (came : Packet) where
   set_turn reroute p None = refl
   set_turn reroute p (Some c) = refl
 
-  rerouted_turn : (reroute : Reroute) (link : Crossing) (p : Packet) (arrived : Bool)
+  rerouted_turn : (reroute : Reroute) (link : Option Crossing) (p : Packet) (arrived : Bool)
       → rerouted h s me came reroute link p arrived ≡ on_turn reroute (turn_of h s me link p arrived)
   unfolding turn_of first_level
-  rerouted_turn reroute Nothing p arrived = refl
-  rerouted_turn reroute (Link n1 n2 m) p arrived = set_turn reroute p (choice h s (place_of h me) (first_level h s me came m arrived))
+  rerouted_turn reroute None p arrived = refl
+  rerouted_turn reroute (Some link) p arrived = set_turn reroute p (choice h s (place_of h me) (first_level h s me came link.level arrived))
 
   module _ (p : Packet) (arrived : Bool) (many : 1 < p.retry) (q : Packet) (low : q ≡ retried (p.retry - 1) p)
-      (link : Crossing) (t : Option Packet) (is : t ≡ turn_of h s me link q arrived) where
+      (link : Option Crossing) (t : Option Packet) (is : t ≡ turn_of h s me link q arrived) where
     by_turn : reroute_on h s me came p.retry link p arrived ≡ on_turn (reroute_on h s me came (p.retry - 1)) t
     by_turn =
         reroute_more p.retry link p arrived many
         ∙ rerouted_turn (reroute_on h s me came (p.retry - 1)) link (retried (p.retry - 1) p) arrived ∙ rw (is, low)
 
-    pub reroute_misses : (o : Step) → t ≡ None → o ≡ ended drop_proxy came → o ≡ reroute_on h s me came p.retry link p arrived
+    pub reroute_misses : (o : StepAnswer) → t ≡ None → o ≡ ended drop_proxy came → o ≡ reroute_on h s me came p.retry link p arrived
     reroute_misses o e k = k ∙ sym (by_turn ∙ rw e)
 
-    pub reroute_again : (r : Packet) → t ≡ Some r → (o z : Step) → o ≡ step_from h s me came r false → z ≡ one_more o
+    pub reroute_again : (r : Packet) → t ≡ Some r → (o z : StepAnswer) → o ≡ step_from h s me came r false → z ≡ one_more o
         → z ≡ reroute_on h s me came p.retry link p arrived
     unfolding step_from
     reroute_again r e o z g k =
@@ -142,7 +143,7 @@ module _ (h : Hall) (s : Seen) (me : ℕ) (came : Packet) where
         k ∙ ap one_more g ∙ sym (by_turn ∙ rw (e, n))
 
   -- a step has no more reroutes than the retry
-  pub step_few : (o : Step) (p : Packet) (arrived : Bool) → o ≡ step_from h s me came p arrived → o.reroutes ≤ p.retry
+  pub step_few : (o : StepAnswer) (p : Packet) (arrived : Bool) → o ≡ step_from h s me came p arrived → o.reroutes ≤ p.retry
   step_few o p arrived e =
       let r = last_pass h s me came (λ (q : Packet). Unit {0}) (λ q f w k. tt) (λ q f n1 n2 m p1 i d w g k. tt) (step_passes h s me came p arrived) tt in
       rw e (omega (arith, r.lowered))
@@ -157,12 +158,16 @@ uid_fits_in h me place count sound fits inside e =
     let v = valid_known h sound in
     rw (first_of_lem h me count e) (uid_fits h v (first_of h me + place) (uid_within h me place v fits inside))
 
-pub proxy_is : (h : Hall) (me place level : ℕ) → Placed h me place level → (u : ℕ) → u ≡ first_of h me + place → (r : Neighbour) → r ≡ neighbour_of h u level
-    → r.uid ≡ neighbour h.n (level - 1) (first_of h me + place)
-proxy_is h me place level a u e r q =
-    let b = a.above in
-    let l = uid_within h me place (valid_known h b.sound) a.fits b.inside in
-    rw (q, e) (neighbour_told h (first_of h me + place) level b.sound l (omega (arith, b.low)) b.high)
+-- the neighbour at a level above b of the server at a place: the call answers, and with the neighbour
+module _ (h : Hall) (me place level : ℕ) (a : Placed h me place level) (u : ℕ) (e : u ≡ first_of h me + place) (r : Result ℕ Refusal) (q : neighbour_stated r ≡ neighbour_of h u level) where
+  below : u < servers h
+  below = rw e (uid_within h me place (valid_known h a.above.sound) a.fits a.above.inside)
+
+  pub proxy_known : IsOk r
+  proxy_known = neighbour_known h u level a.above.sound below (omega (arith, a.above.low)) a.above.high r q
+
+  pub proxy_is : (x : ℕ) → r ≡ Ok x → x ≡ neighbour h.n (level - 1) (first_of h me + place)
+  proxy_is x o = neighbour_is h u level a.above.sound below (omega (arith, a.above.low)) a.above.high r x q o ∙ ap (neighbour h.n (level - 1)) e
 
 module _ (h : Hall) (me : ℕ) where
   -- what lies before a packet on the way to its goal
@@ -170,7 +175,7 @@ module _ (h : Hall) (me : ℕ) where
   looked p s dst to o e f = f ∙ ap (outlook_of h s me dst) e
 
   -- blocked, a packet is so at the first link towards its goal
-  blocked_by : (dst : ℕ) (first : Crossing) (w : Way) (link : Crossing) → outlook_by h me dst first w ≡ Blocked link → link ≡ first
+  blocked_by : (dst : ℕ) (first : Option Crossing) (w : Way) (link : Option Crossing) → outlook_by h me dst first w ≡ Blocked link → link ≡ first
   blocked_by dst first (To u) link e = absurd (let w : ◌≡◌ {A = ℕ} 0 1 = cc in omega arith)
   blocked_by dst first Closed link e = cc
   blocked_by dst first Unreached link e =
@@ -188,28 +193,28 @@ module _ {whole : Bool} (h : Hall) (table : List ℕ) (me : ℕ) (p : Packet) wh
   stands_ahead a to e = record { here = a.here; fits = rw e (goal_fits a); apart = rw e a.goal_apart; first = refl }
 
   pub stands_blocked : Standing h whole table me p → (s : Seen) (dst : ℕ) (o : Outlook) → o ≡ outlook_of h s me dst (goal p)
-      → (link : Crossing) → o ≡ Blocked link → Stopped h whole table me link p
+      → (link : Option Crossing) → o ≡ Blocked link → Stopped h whole table me link p
   unfolding outlook_of
   stands_blocked a s dst o is link e = record {
     standing = a;
     first = blocked_by h me dst (first_link h me (goal p)) (way_over h s me (goal p) (first_link h me (goal p))) link (sym is ∙ e);
   }
 
-  module _ (link : Crossing) (a : Stopped h whole table me link p) where
+  module _ (link : Option Crossing) (a : Stopped h whole table me link p) where
     stand : Standing h whole table me p
     stand = a.standing
 
     v : Valid h
     v = valid_known h stand.here.sound
 
-    link_of : {n1 n2 m : ℕ} → link ≡ Link n1 n2 m → ahead.Ahead h me n1 n2 m
-    link_of e = ahead.link_ahead h stand.here.sound me (goal p) stand.here.fits (goal_fits stand) (sym a.first ∙ e)
+    ahead_of : {n1 n2 m : ℕ} → link ≡ link_of n1 n2 m → ahead.Ahead h me n1 n2 m
+    ahead_of e = ahead.link_ahead h stand.here.sound me (goal p) stand.here.fits (goal_fits stand) (sym a.first ∙ e)
 
-    pub level_low : (n1 n2 m : ℕ) → link ≡ Link n1 n2 m → m ≤ top
-    level_low n1 n2 m e = let k = link_of e in omega (arith, k.level, k.high, v.k_high)
+    pub level_low : (n1 n2 m : ℕ) → link ≡ link_of n1 n2 m → m ≤ top
+    level_low n1 n2 m e = let k = ahead_of e in omega (arith, k.level, k.high, v.k_high)
 
-    pub level_above : (n1 n2 m : ℕ) → link ≡ Link n1 n2 m → (more level : ℕ) → level ≡ m + more → h.b < level
-    level_above n1 n2 m e more level l = let k = link_of e in omega (arith, k.level, k.low)
+    pub level_above : (n1 n2 m : ℕ) → link ≡ link_of n1 n2 m → (more level : ℕ) → level ≡ m + more → h.b < level
+    level_above n1 n2 m e more level l = let k = ahead_of e in omega (arith, k.level, k.low)
 
     -- with one retry less it is stopped there too
     pub stopped_retried : (q : Packet) → q ≡ retried (p.retry - 1) p → Stopped h whole table me link q
@@ -244,13 +249,13 @@ module _ {whole : Bool} (h : Hall) (table : List ℕ) (me : ℕ) (p : Packet) wh
       alive = stand.alive;
     })
 
-    module _ (n1 n2 m : ℕ) (e : link ≡ Link n1 n2 m) (arrived : Bool) (level : ℕ) (lv : level ≡ m + pick (both arrived (ltb m h.k)) 1 0)
+    module _ (n1 n2 m : ℕ) (e : link ≡ link_of n1 n2 m) (arrived : Bool) (level : ℕ) (lv : level ≡ m + pick (both arrived (ltb m h.k)) 1 0)
         (s : Seen) (found : Option Candidate) (c : found ≡ choice h s (place_of h me) level) (p1 i : ℕ) (f : found ≡ candidate p1 i) where
       suits : Suits h s me p1 i
       unfolding is_candidate
       suits =
           let k = choice_at h s (place_of h me) level (sym c ∙ f) in
-          let l = link_of e in
+          let l = ahead_of e in
           let t : Bool = not (eqb (s.distance (place_of h me) p1) none) in
           let w : both t (s.usable i p1) ≡ true = k.nearest.candidate in
           record {
@@ -287,17 +292,17 @@ module _ {whole : Bool} (h : Hall) (table : List ℕ) (me : ℕ) (p : Packet) wh
 
     -- so what a reroute makes of it stands there
     module _ (s : Seen) (arrived : Bool) (r : Packet) where
-      by_found : (n1 n2 m : ℕ) → link ≡ Link n1 n2 m
+      by_found : (n1 n2 m : ℕ) → link ≡ link_of n1 n2 m
           → (found : Option Candidate) → found ≡ choice h s (place_of h me) (m + pick (both arrived (ltb m h.k)) 1 0)
           → turn_by h me p found ≡ Some r → Standing h whole table me r
       by_found n1 n2 m e None c t = absurd (let w : ◌≡◌ {A = ℕ} 0 1 = cc in omega arith)
       by_found n1 n2 m e (Some x) c t =
           stands_proxied n1 n2 m e arrived (m + pick (both arrived (ltb m h.k)) 1 0) refl s (Some x) c x.place x.level refl r (again_one t)
 
-      by_link : (l : Crossing) → link ≡ l → turn_of h s me l p arrived ≡ Some r → Standing h whole table me r
+      by_link : (l : Option Crossing) → link ≡ l → turn_of h s me l p arrived ≡ Some r → Standing h whole table me r
       unfolding turn_of
-      by_link Nothing e t = stands_cleared r (again_one t)
-      by_link (Link n1 n2 m) e t = by_found n1 n2 m e (choice h s (place_of h me) (m + pick (both arrived (ltb m h.k)) 1 0)) refl t
+      by_link None e t = stands_cleared r (again_one t)
+      by_link (Some l) e t = by_found l.near l.far l.level e (choice h s (place_of h me) (l.level + pick (both arrived (ltb l.level h.k)) 1 0)) refl t
 
       pub stands_again : turn_of h s me link p arrived ≡ Some r → Standing h whole table me r
       stands_again = by_link link refl
@@ -356,7 +361,7 @@ module _ (h : Hall) (packet : Packet) where
     stands_on_way false e = stands_set_out (sym e)
 
   -- 1 to 3
-  module _ (s : Seen) (me : ℕ) (o : Step) where
+  module _ (s : Seen) (me : ℕ) (o : StepAnswer) where
     pub step_delivers : me ≡ packet.dst → o ≡ ended delivered (tidied packet) → o ≡ step_on h s me (tidied packet)
     unfolding step_on
     step_delivers e q = q ∙ rw (eq-eqb me (tidied packet).dst (e ∙ sym (tidied_dst packet)))

@@ -15,9 +15,11 @@ use Rattle.local.specs.Local.{linked}
 use Rattle.counted.specs.Counted.{counted}
 use Rattle.counted.proofs.Counted.{counted_length}
 use Rattle.ends.specs.Tables.{step_table, cell_part}
+use Rattle.forward.specs.declared.endings.Ending.{Ending}
+use Rattle.forward.specs.declared.endings.Ending.TheVariants.{DropTtl, DropRoute, DropRetry, DropProxy, Delivered}
 use Rattle.forward.specs.declared.Packet.{Packet}
-use Rattle.forward.specs.declared.Step.{Step}
-use Rattle.forward.specs.declared.Journey.{Journey}
+use Rattle.forward.specs.Packets.{ending_number, StepAnswer}
+use Rattle.forward.specs.Answers.{JourneyAnswer}
 use Rattle.forward.specs.Packets.{forwarded, tidied}
 use Rattle.forward.specs.Journeys.{Trip, step_at, ends_at, goes_on, trip_on, trip, sight}
 use Rattle.forward.specs.Answers.{most_passed, passed, journey_from}
@@ -28,8 +30,20 @@ use Rattle.forward.proofs.Hops.{step_forwards}
 use Rattle.forward.proofs.Sight.{seen_links}
 use Rattle.forward.proofs.CodeSteps.{tidied_sound}
 
+-- no ending has the number 0, which says that the packet goes on
+pub ending_not_zero : (e : Ending) → ending_number e ≡ 0 → ⊥
+ending_not_zero DropTtl z = absurd (omega (arith, z))
+ending_not_zero DropRoute z = absurd (omega (arith, z))
+ending_not_zero DropRetry z = absurd (omega (arith, z))
+ending_not_zero DropProxy z = absurd (omega (arith, z))
+ending_not_zero Delivered z = absurd (omega (arith, z))
+
+-- a journey of this ending, these counts and these uids
+abbrev pub journey_ending : ℕ → ℕ → ℕ → List ℕ → JourneyAnswer
+journey_ending ending links reroutes uids = record { refusal = 0; ending = ending; links = links; reroutes = reroutes; uids = uids }
+
 module _ (h : Hall) (table : List ℕ) (me : ℕ) (p : Packet) (a : Departing h table me p) where
-  module _ (o : Step) (q : o ≡ step_at h table me p) where
+  module _ (o : StepAnswer) (q : o ≡ step_at h table me p) where
     pub step_few : o.reroutes ≤ most_retry
     step_few =
         let r = reroutes_few h (sight h table me) me (tidied p) in
@@ -43,7 +57,7 @@ module _ (h : Hall) (table : List ℕ) (me : ℕ) (p : Packet) (a : Departing h 
     trip_ends ne = go p.ttl
       where
         stops : eqb (step_at h table me p).ending forwarded ≡ false
-        stops = ne_eqb (step_at h table me p).ending forwarded (λ z. ne (ap (λ (s : Step). s.ending) q ∙ z))
+        stops = ne_eqb (step_at h table me p).ending forwarded (λ z. ne (ap (λ (s : StepAnswer). s.ending) q ∙ z))
 
         go : (f : ℕ) → trip_on f (λ u r. step_at h table u r) me p ≡ ends_at me o
         go zero = rw q
@@ -51,7 +65,7 @@ module _ (h : Hall) (table : List ℕ) (me : ℕ) (p : Packet) (a : Departing h 
 
     module _ (z : o.ending ≡ 0) where
       forwards : (step_at h table me p).ending ≡ forwarded
-      forwards = sym (ap (λ (s : Step). s.ending) q) ∙ z
+      forwards = sym (ap (λ (s : StepAnswer). s.ending) q) ∙ z
 
       pub ttl_falls : o.packet.ttl + 1 ≡ p.ttl
       ttl_falls = rw q (step_sends h table me p forwards).ttl
@@ -134,10 +148,10 @@ module _ (h : Hall) (table : List ℕ) (source : ℕ) (packet : Packet) where
     unfolding passed
     passed_there = rw filled_count_lem written
 
-    module _ (o : Step) (q : o ≡ step_at h table me p) where
+    module _ (o : StepAnswer) (q : o ≡ step_at h table me p) where
       -- the last step: the counts and the uids are the journey's
       pub ends_journey : (o.ending ≡ 0 → ⊥)
-          → ◌≡◌ {A = Journey} (record { refusal = 0; ending = o.ending; links = at; reroutes = reroutes + o.reroutes; uids = set uids at me })
+          → ◌≡◌ {A = JourneyAnswer} (record { refusal = 0; ending = o.ending; links = at; reroutes = reroutes + o.reroutes; uids = set uids at me })
           (journey_from (trip h table source packet))
       ends_journey ne =
           let e : trip h table source packet ≡ behind w.filled at reroutes (ends_at me o) =

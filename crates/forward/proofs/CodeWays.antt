@@ -1,6 +1,7 @@
 -- The way on from a server, as the code finds it: the local next hop is found exactly where the target can be reached, the first link above b
 -- begins in the own cell, and no link means that the goal is there too.
-use mathlib.Core.Path.{◌≡◌, sym, ◌∙◌, ap}
+use Rattle.std.proofs.Common.{Option, None}
+use mathlib.Core.Path.{refl, ◌≡◌, sym, ◌∙◌, ap}
 use mathlib.Core.Bool.{Bool, not}
 use mathlib.Core.List.{List}
 use mathlib.Core.Logic.{inr}
@@ -16,10 +17,12 @@ use Rattle.hall.specs.Halls.{servers}
 use Rattle.hall.proofs.Growth.{Valid, valid_known}
 use Rattle.ports.specs.Codes.{cell_length}
 use Rattle.route.specs.declared.Crossing.{Crossing}
-use Rattle.route.specs.declared.Crossing.TheVariants.{Link, Nothing}
-use Rattle.local.specs.declared.NextHop.{NextHop}
+use Rattle.route.specs.Answers.{link_of}
+use Rattle.std.proofs.Common.{Result, Ok, IsOk, Some}
+use Rattle.hall.specs.declared.refusals.Refusal.{Refusal}
+use Rattle.local.proofs.Stated.{next_hop_known}
 use Rattle.local.specs.Local.{none, cell_size, place_of, first_of, distance, hop}
-use Rattle.local.specs.Answers.{no_hop, hop_at, next_hop_of}
+use Rattle.local.specs.Answers.{NextHopAnswer, no_hop, hop_at, hop_told, next_hop_of, next_hop_stated}
 use Rattle.local.proofs.Sizes.{place_fits}
 use Rattle.local.proofs.Uids.{place_one}
 use Rattle.local.proofs.Hops as hops
@@ -61,7 +64,7 @@ module _ {whole : Bool} (h : Hall) (table : List ℕ) (me target : ℕ) (a : Tar
       hop_reached h own v (place_of h me) (place_of h target) (place_fits h v me) (place_fits h v target)
       (λ e. a.apart (sym (place_one h me target a.near e)))
 
-  module _ (part : List ℕ) (o : part ≡ cell_part h (held h whole table me)) (r : NextHop) (f : r ≡ next_hop_of h me target part) where
+  module _ (part : List ℕ) (o : part ≡ cell_part h (held h whole table me)) (r : NextHopAnswer) (f : r ≡ next_hop_of h me target part) where
     told : r ≡ hop_at h me place
     told = f ∙ ap (next_hop_of h me target) o ∙ answer
 
@@ -70,21 +73,32 @@ module _ {whole : Bool} (h : Hall) (table : List ℕ) (me target : ℕ) (a : Tar
     unfolding way_to hop_at
     hop_none z =
         cases (ltb place (cell_size h))
-        (λ q. let f : r ≡ record { refusal = 0; found = 1; uid = first_of h me + place } = told ∙ rw q in let g = ap (λ (n : NextHop). n.found) f in absurd (omega arith))
+        (λ q. let f : r ≡ record { refusal = 0; found = 1; uid = first_of h me + place } = told ∙ rw q in let g = ap (λ (n : NextHopAnswer). n.found) f in absurd (omega arith))
         (λ q. rw (← reaches, q))
 
     pub hop_some : (r.found ≡ 0 → ⊥) → To r.uid ≡ way_to h (seen h (lent h whole table me)) me target
     unfolding way_to hop_at
     hop_some ne =
         cases (ltb place (cell_size h))
-        (λ q. let f : r ≡ record { refusal = 0; found = 1; uid = first_of h me + place } = told ∙ rw q in rw (← reaches, q, ap (λ (n : NextHop). n.uid) f))
-        (λ q. let f : r ≡ no_hop = told ∙ rw q in absurd (ne (ap (λ (n : NextHop). n.found) f)))
+        (λ q. let f : r ≡ record { refusal = 0; found = 1; uid = first_of h me + place } = told ∙ rw q in rw (← reaches, q, ap (λ (n : NextHopAnswer). n.uid) f))
+        (λ q. let f : r ≡ no_hop = told ∙ rw q in absurd (ne (ap (λ (n : NextHopAnswer). n.found) f)))
 
-module _ {whole : Bool} (h : Hall) (table : List ℕ) (me goal : ℕ) (link : Crossing) (a : Ahead h whole table me goal link) where
-  ahead_is : {u v m : ℕ} → link ≡ Link u v m → links.Ahead h me u v m
+  -- what the call answers, by its cases
+  module _ (part : List ℕ) (o : part ≡ cell_part h (held h whole table me)) (r : Result (Option ℕ) Refusal) (f : next_hop_stated r ≡ next_hop_of h me target part) where
+    pub hop_there : IsOk r
+    hop_there = next_hop_known h me part a.here.sound (ap length o ∙ own_long h whole table me a.here) a.here.fits target a.fits a.near r f
+
+    pub way_found : (u : ℕ) (x : Option ℕ) → r ≡ Ok x → x ≡ Some u → To u ≡ way_to h (seen h (lent h whole table me)) me target
+    way_found u x e g = hop_some part o (hop_told (Some u)) (ap next_hop_stated (sym (e ∙ ap Ok g)) ∙ f) (λ z. absurd (omega (arith, z)))
+
+    pub way_missing : (x : Option ℕ) → r ≡ Ok x → x ≡ None → Unreached ≡ way_to h (seen h (lent h whole table me)) me target
+    way_missing x e g = hop_none part o (hop_told None) (ap next_hop_stated (sym (e ∙ ap Ok g)) ∙ f) refl
+
+module _ {whole : Bool} (h : Hall) (table : List ℕ) (me goal : ℕ) (link : Option Crossing) (a : Ahead h whole table me goal link) where
+  ahead_is : {u v m : ℕ} → link ≡ link_of u v m → links.Ahead h me u v m
   ahead_is e = links.link_ahead h a.here.sound me goal a.here.fits a.fits (sym a.first ∙ e)
 
-  pub target_goal : link ≡ Nothing → Target h whole table me goal
+  pub target_goal : link ≡ None → Target h whole table me goal
   target_goal e = record {
     here = a.here;
     fits = a.fits;
@@ -92,11 +106,11 @@ module _ {whole : Bool} (h : Hall) (table : List ℕ) (me goal : ℕ) (link : Cr
     near = links.none_ahead h a.here.sound me goal a.here.fits a.fits (sym a.first ∙ e);
   }
 
-  pub target_near : (u v m : ℕ) → link ≡ Link u v m → (me ≡ u → ⊥) → Target h whole table me u
+  pub target_near : (u v m : ℕ) → link ≡ link_of u v m → (me ≡ u → ⊥) → Target h whole table me u
   target_near u v m e ne = let k = ahead_is e in record { here = a.here; fits = k.near_in; apart = λ z. ne (sym z); near = k.starts }
 
   -- both ends of the link, and that its near end is lent what self is
-  pub crossed : (u v m : ℕ) → link ≡ Link u v m → Crossed h whole table u v m
+  pub crossed : (u v m : ℕ) → link ≡ link_of u v m → Crossed h whole table u v m
   crossed u v m e =
       let k = ahead_is e in
       let j : m - 1 ≡ k.j = omega (arith, k.level) in
@@ -107,6 +121,6 @@ module _ {whole : Bool} (h : Hall) (table : List ℕ) (me goal : ℕ) (link : Cr
         leads = rw j (sym k.leads);
       }
 
-  pub usable_near : (u v m : ℕ) → link ≡ Link u v m → (r : Bool) → r ≡ usable h (lent h whole table u) m (place_of h u)
+  pub usable_near : (u v m : ℕ) → link ≡ link_of u v m → (r : Bool) → r ≡ usable h (lent h whole table u) m (place_of h u)
       → usable h (lent h whole table me) m (place_of h u) ≡ r
   usable_near u v m e r q = ap (λ (l : List ℕ). usable h l m (place_of h u)) (lent_shared h whole table me u (ahead_is e).starts) ∙ sym q

@@ -6,7 +6,7 @@ use Rattle.hall.specs.declared.Hall.{Hall}
 use Rattle.ports.specs.Codes.{up, part}
 use Rattle.local.specs.Local.{distance, hop}
 use Rattle.forward.specs.declared.Packet.{Packet}
-use Rattle.forward.specs.declared.Step.{Step}
+use Rattle.forward.specs.Packets.{StepAnswer}
 use Rattle.forward.specs.Packets.{tidied}
 use Rattle.forward.specs.Seen.{Seen}
 use Rattle.forward.specs.Steps.{step_on}
@@ -19,7 +19,7 @@ sight_before h table me = record {
   usable = λ i place. up h (part h table me) place i;
 }
 
-abbrev pub step_before : Hall → List ℕ → ℕ → Packet → Step
+abbrev pub step_before : Hall → List ℕ → ℕ → Packet → StepAnswer
 step_before h table me p = step_on h (sight_before h table me) me (tidied p)
 
 abbrev pub trip_before : Hall → List ℕ → ℕ → Packet → Trip

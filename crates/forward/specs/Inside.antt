@@ -8,7 +8,6 @@ use Rattle.hall.specs.Halls.{valid, servers}
 use Rattle.hall.specs.Refusals.{Ask, bad_uid, most_retry}
 use Rattle.ports.specs.Codes.{table_length}
 use Rattle.route.specs.declared.Crossing.{Crossing}
-use Rattle.route.specs.declared.Crossing.TheVariants.{Link, Nothing}
 use Rattle.route.specs.Answers.{first_link}
 use Rattle.local.specs.Local.{none, cell_size, place_of, first_of}
 use Rattle.counted.specs.Counted.{counted}
@@ -47,12 +46,13 @@ way_to h s me target =
     Unreached
 
 -- the way towards a goal: to it where no link above b is on the route, else over the first such link, where it is usable
-unfoldable pub way_over : Hall → Seen → ℕ → ℕ → Crossing → Way
-way_over h s me goal Nothing = way_to h s me goal
-way_over h s me goal (Link n1 n2 m) = pick (s.usable m (place_of h n1)) (pick (eqb me n1) (To n2) (way_to h s me n1)) Closed
+unfoldable pub way_over : Hall → Seen → ℕ → ℕ → Option Crossing → Way
+way_over h s me goal None = way_to h s me goal
+way_over h s me goal (Some link) =
+    pick (s.usable link.level (place_of h link.near)) (pick (eqb me link.near) (To link.far) (way_to h s me link.near)) Closed
 
 -- what lies before a packet for a destination, by the first link above b and the way on
-abbrev pub outlook_by : Hall → ℕ → ℕ → Crossing → Way → Outlook
+abbrev pub outlook_by : Hall → ℕ → ℕ → Option Crossing → Way → Outlook
 outlook_by h me dst link (To u) = Next u
 outlook_by h me dst link Closed = Blocked link
 outlook_by h me dst link Unreached = pick (same h.n h.b me dst) NoRoute (Blocked link)
@@ -67,9 +67,9 @@ turn_by h me p None = None
 turn_by h me p (Some c) = Some (proxied (neighbour h.n (c.level - 1) (first_of h me + c.place)) p)
 
 -- what a reroute makes of a packet, for the link that is out (or none)
-unfoldable pub turn_of : Hall → Seen → ℕ → Crossing → Packet → Bool → Option Packet
-turn_of h s me Nothing p arrived = Some (cleared p)
-turn_of h s me (Link n1 n2 m) p arrived = turn_by h me p (choice h s (place_of h me) (m + pick (both arrived (ltb m h.k)) 1 0))
+unfoldable pub turn_of : Hall → Seen → ℕ → Option Crossing → Packet → Bool → Option Packet
+turn_of h s me None p arrived = Some (cleared p)
+turn_of h s me (Some link) p arrived = turn_by h me p (choice h s (place_of h me) (link.level + pick (both arrived (ltb link.level h.k)) 1 0))
 
 -- what a packet at a server is asked, in a hall of so many servers
 abbrev pub asks_below : ℕ → ℕ → Packet → List Ask
@@ -91,7 +91,7 @@ pub record Target (h : Hall) (whole : Bool) (table : List ℕ) (me target : ℕ)
   pub near : same h.n h.b me target ≡ true
 
 -- another server of the hall, and the first link above b of the route to it
-pub record Ahead (h : Hall) (whole : Bool) (table : List ℕ) (me goal : ℕ) (link : Crossing) : Type 0 where
+pub record Ahead (h : Hall) (whole : Bool) (table : List ℕ) (me goal : ℕ) (link : Option Crossing) : Type 0 where
   pub here : Here h whole table me
   pub fits : goal < servers h
   pub apart : goal ≡ me → ⊥
@@ -112,7 +112,7 @@ pub record Standing (h : Hall) (whole : Bool) (table : List ℕ) (me : ℕ) (p :
   pub alive : 0 < p.ttl
 
 -- and this is the first link above b of the route to its goal
-pub record Stopped (h : Hall) (whole : Bool) (table : List ℕ) (me : ℕ) (link : Crossing) (p : Packet) : Type 0 where
+pub record Stopped (h : Hall) (whole : Bool) (table : List ℕ) (me : ℕ) (link : Option Crossing) (p : Packet) : Type 0 where
   pub standing : Standing h whole table me p
   pub first : link ≡ first_link h me (goal p)
 

@@ -8,23 +8,23 @@ ghost use Rattle.std.specs.Prelude.{◌≡◌, true, not, ◌∷◌, ℕ, ◌+�
 ghost use Rattle.combine.specs.Tests.{pick, both, either};
 ghost use Rattle.hall.specs.Cells.{same, neighbour};
 ghost use Rattle.hall.specs.Halls.{top, valid, is_full, servers};
-ghost use Rattle.hall.specs.Refusals.{refusal, bad_length};
+ghost use Rattle.hall.specs.Refusals.{refusal, refusal_in, bad_length};
 ghost use Rattle.route.specs.Answers.{first_link};
 ghost use Rattle.local.specs.Local.{none, cell_size, place_of, first_of};
 ghost use Rattle.plan.specs.Answers.{fitted};
 ghost use Rattle.counted.specs.Counted.{counted};
 ghost use Rattle.ends.specs.Tables.{step_length, cell_part, far_place};
-ghost use Rattle.forward.specs.Packets.{cleared, tidied, proxied, retried, aged, is_arrived, goal, sent, ended, one_more};
+ghost use Rattle.forward.specs.Packets.{cleared, tidied, proxied, retried, aged, is_arrived, goal, sent, ended, one_more, ending_number, step_told};
 ghost use Rattle.forward.specs.Seen.{seen, usable};
 ghost use Rattle.forward.specs.Proxies.{choice};
 ghost use Rattle.forward.specs.Steps.{step_from, reroute_on, step};
 ghost use Rattle.forward.specs.Journeys.{trip};
-ghost use Rattle.forward.specs.Answers.{most_passed, refused_step, step_of, journey_from, refused_journey, journey_of};
+ghost use Rattle.forward.specs.Answers.{most_passed, step_of, step_stated, journey_from, journey_told, journey_of, journey_stated};
 ghost use Rattle.forward.specs.Inside.{Here, Target, Ahead, Standing, Stopped, Above, Placed, Crossed, Servers, Sound, Departing, held, lent, cleared_if, way_to, way_over, outlook_of, turn_of, asks_below};
 
-use crate::endings::{DELIVERED, DROP_PROXY, DROP_RETRY, DROP_ROUTE, DROP_TTL, FORWARDED};
+use crate::endings::{Ending, Onward};
 use hall::Hall;
-use hall::refusals::{BAD_HALL, BAD_LENGTH, BAD_RETRY, BAD_UID, MOST_RETRY};
+use hall::refusals::{MOST_RETRY, Refusal};
 use local::NONE;
 use ports::codes::UP;
 use route::Crossing;
@@ -45,9 +45,7 @@ pub struct Packet {
 // What a step answers: the next uid or the ending, the packet to send on, and its reroutes.
 #[derive(Clone, Copy)]
 pub struct Step {
-    pub refusal: u32,
-    pub ending: u32,
-    pub next: u32,
+    pub onward: Onward,
     pub packet: Packet,
     pub reroutes: u32,
 }
@@ -62,8 +60,7 @@ pub struct Candidate {
 // What a journey answers: its ending, the links crossed, the reroutes, and the uids passed, zeros behind them.
 #[derive(Clone, Copy)]
 pub struct Journey {
-    pub refusal: u32,
-    pub ending: u32,
+    pub ending: Ending,
     pub links: u32,
     pub reroutes: u32,
     pub uids: [u32; MOST_PASSED],
@@ -82,7 +79,7 @@ enum Way {
 enum Outlook {
     Next { uid: u32 },
     NoRoute,
-    Blocked { link: Crossing },
+    Blocked { link: Option<Crossing> },
 }
 
 // The packet without a proxy.
@@ -172,25 +169,21 @@ fn goal(p: Packet) -> u32
 // The packet is forwarded to `next`.
 fn sent(next: u32, p: Packet) -> Step
     requires { 0 < p.ttl }
-    ensures { result ≡ sent next p }
+    ensures { step_told result ≡ sent next p }
 {
     Step {
-        refusal: 0,
-        ending: FORWARDED,
-        next,
+        onward: Onward::To { next },
         packet: aged(p),
         reroutes: 0,
     }
 }
 
 // The packet ends here, as it came.
-fn ended(ending: u32, came: Packet) -> Step
-    ensures { result ≡ ended ending came }
+fn ended(ending: Ending, came: Packet) -> Step
+    ensures { step_told result ≡ ended (ending_number ending) came }
 {
     Step {
-        refusal: 0,
-        ending,
-        next: 0,
+        onward: Onward::Ends { ending },
         packet: came,
         reroutes: 0,
     }
@@ -199,7 +192,7 @@ fn ended(ending: u32, came: Packet) -> Step
 // The step with one reroute more.
 fn one_more(o: Step) -> Step
     requires { o.reroutes < 4294967295 }
-    ensures { result ≡ one_more o }
+    ensures { step_told result ≡ one_more (step_told o) }
 {
     Step {
         reroutes: o.reroutes + 1,
@@ -326,21 +319,20 @@ fn way_to(h: Hall, whole: bool, table: &[u8], me: u32, target: u32) -> Way
     requires { Target h whole table.now me target }
     ensures { result ≡ way_to h (seen h (lent h whole table.now me)) me target }
 {
-    let hop = local::next_hop(h, me, target, own_part(h, whole, table, me));
-    if hop.found == 0 {
-        return Way::Unreached;
+    match local::next_hop(h, me, target, own_part(h, whole, table, me)).unwrap() {
+        Some(uid) => Way::To { uid },
+        None => Way::Unreached,
     }
-    Way::To { uid: hop.uid }
 }
 
 // The way towards a goal, by the first link above b of the route to it.
-fn way_over(h: Hall, whole: bool, table: &[u8], me: u32, goal: u32, link: Crossing) -> Way
+fn way_over(h: Hall, whole: bool, table: &[u8], me: u32, goal: u32, link: Option<Crossing>) -> Way
     requires { Ahead h whole table.now me goal link }
     ensures { result ≡ way_over h (seen h (lent h whole table.now me)) me goal link }
 {
     match link {
-        Crossing::Nothing => way_to(h, whole, table, me, goal),
-        Crossing::Link { near, far, level } => {
+        None => way_to(h, whole, table, me, goal),
+        Some(Crossing { near, far, level }) => {
             if !is_usable(h, whole, table, level, near, far) {
                 return Way::Closed;
             }
@@ -357,13 +349,13 @@ fn farthest(distance: &[u8; 72], count: u32) -> u8
     requires { count ≤ 72 }
     ensures { (result < none) × ((q : ℕ) → q < count → get_or distance.now q 0 < none → get_or distance.now q 0 ≤ result) }
 {
-    let distances = &distance[..count as usize];
-    distances
-        .iter()
-        .copied()
-        .filter(|d| *d < NONE)
-        .max()
-        .unwrap_or(0)
+    let mut most = 0;
+    for &d in &distance[..count as usize] {
+        if d < NONE {
+            most = most.max(d);
+        }
+    }
+    most
 }
 
 // The server at a place of the DCell(b) around `me`.
@@ -379,7 +371,7 @@ fn proxy_of(h: Hall, me: u32, place: u32, level: u32) -> u32
     requires { Placed h me place level }
     ensures { result ≡ neighbour h.n (level - 1) (first_of h me + place) }
 {
-    cells::neighbour_of(h, uid_at(h, me, place), level).uid
+    cells::neighbour_of(h, uid_at(h, me, place), level).unwrap()
 }
 
 // Whether both ends of the link of a level above b at a place of the DCell(b) around `me` are up; in the hall table the far port is looked for last.
@@ -394,7 +386,8 @@ fn is_up_at(h: Hall, whole: bool, table: &[u8], me: u32, level: u32, place: u32)
     if !ports::is_up(h, table, near, level) {
         return false;
     }
-    ports::is_up(h, table, cells::neighbour_of(h, near, level).uid, level)
+    let other = cells::neighbour_of(h, near, level).unwrap();
+    ports::is_up(h, table, other, level)
 }
 
 // Whether the link of a level above b at a place of the DCell(b) around `me` is usable: its far server is looked for last.
@@ -437,15 +430,13 @@ fn choose(h: Hall, whole: bool, table: &[u8], me: u32, first: u32) -> Option<Can
     requires { Here h whole table.now me × (h.b < first) }
     ensures { result ≡ choice h (seen h (lent h whole table.now me)) (place_of h me) first }
 {
-    let from = local::distances_of(h, me, own_part(h, whole, table, me));
-    let count = from.count;
-    let distance = from.distance;
-    let last = farthest(&distance, count);
+    let from = local::distances_of(h, me, own_part(h, whole, table, me)).unwrap();
+    let last = farthest(&from.distance, from.count);
     let mut chosen = None;
     'search: for level in first..=h.k {
         for d in 0..=last {
-            for place in 0..count {
-                let x = distance[place as usize];
+            for place in 0..from.count {
+                let x = from.distance[place as usize];
                 if is_candidate(h, whole, table, me, level, place, x, d) {
                     chosen = Some(Candidate { place, level });
                     break 'search;
@@ -457,12 +448,10 @@ fn choose(h: Hall, whole: bool, table: &[u8], me: u32, first: u32) -> Option<Can
 }
 
 // The first link above b of the route from one server to another.
-fn first_link(h: Hall, x: u32, y: u32) -> Crossing
+fn first_link(h: Hall, x: u32, y: u32) -> Option<Crossing>
     ensures { result ≡ first_link h x y }
 {
-    let found = route::first_link(h, x, y);
-    let link = found.link;
-    link
+    route::first_link(h, x, y).unwrap_or(None)
 }
 
 // The level that a reroute tries first.
@@ -503,7 +492,7 @@ fn turn(
     whole: bool,
     table: &[u8],
     me: u32,
-    link: Crossing,
+    link: Option<Crossing>,
     p: Packet,
     arrived: bool,
 ) -> Option<Packet>
@@ -511,13 +500,9 @@ fn turn(
     ensures { result ≡ turn_of h (seen h (lent h whole table.now me)) me link p arrived }
 {
     match link {
-        Crossing::Nothing => Some(cleared(p)),
-        Crossing::Link {
-            near: _,
-            far: _,
-            level,
-        } => {
-            let found = choose(h, whole, table, me, first_level(h, level, arrived))?;
+        None => Some(cleared(p)),
+        Some(link) => {
+            let found = choose(h, whole, table, me, first_level(h, link.level, arrived))?;
             Some(proxied(proxy_of(h, me, found.place, found.level), p))
         }
     }
@@ -536,11 +521,11 @@ fn step_from(
     outlook: Outlook,
 ) -> Step
     requires { Standing h whole table.now me p × (outlook ≡ outlook_of h (seen h (lent h whole table.now me)) me came.dst (goal p)) }
-    ensures { result ≡ step_from h (seen h (lent h whole table.now me)) me came p arrived }
+    ensures { step_told result ≡ step_from h (seen h (lent h whole table.now me)) me came p arrived }
 {
     match outlook {
         Outlook::Next { uid } => sent(uid, p),
-        Outlook::NoRoute => ended(DROP_ROUTE, came),
+        Outlook::NoRoute => ended(Ending::DropRoute, came),
         Outlook::Blocked { link } => reroute(h, whole, table, me, came, link, p, arrived),
     }
 }
@@ -553,18 +538,18 @@ fn reroute(
     table: &[u8],
     me: u32,
     came: Packet,
-    link: Crossing,
+    link: Option<Crossing>,
     p: Packet,
     arrived: bool,
 ) -> Step
     requires { Stopped h whole table.now me link p }
-    ensures { result ≡ reroute_on h (seen h (lent h whole table.now me)) me came p.retry link p arrived }
+    ensures { step_told result ≡ reroute_on h (seen h (lent h whole table.now me)) me came p.retry link p arrived }
 {
     if p.retry <= 1 {
-        return ended(DROP_RETRY, came);
+        return ended(Ending::DropRetry, came);
     }
     let Some(packet) = turn(h, whole, table, me, link, retried(p), arrived) else {
-        return ended(DROP_PROXY, came);
+        return ended(Ending::DropProxy, came);
     };
     let outlook = look(h, whole, table, me, came.dst, goal(packet));
     one_more(step_from(h, whole, table, me, came, packet, false, outlook))
@@ -573,13 +558,13 @@ fn reroute(
 // The step of a packet that nothing refuses; one that has a way before it goes without a call into the cycle.
 fn step_at(h: Hall, whole: bool, table: &[u8], me: u32, packet: Packet) -> Step
     requires { Here h whole table.now me × Sound h packet }
-    ensures { result ≡ step h (lent h whole table.now me) me packet }
+    ensures { step_told result ≡ step h (lent h whole table.now me) me packet }
 {
     if me == packet.dst {
-        return ended(DELIVERED, tidied(packet));
+        return ended(Ending::Delivered, tidied(packet));
     }
     if packet.ttl == 0 {
-        return ended(DROP_TTL, tidied(packet));
+        return ended(Ending::DropTtl, tidied(packet));
     }
     let arrived = is_arrived(me, packet);
     let outlook = look(
@@ -616,52 +601,33 @@ fn proxy_fits(servers: u32, p: Packet) -> bool
     p.proxy < servers
 }
 
-// The refusal for a packet at a server, in a hall of so many servers; 0 for none.
-fn refused_packet(servers: u32, uid: u32, p: Packet) -> u32
-    ensures { result ≡ refusal (asks_below servers uid p) }
+// The refusal for a packet at a server, in a hall of so many servers.
+fn refused_packet(servers: u32, uid: u32, p: Packet) -> Result<(), Refusal>
+    ensures { refusal_in result ≡ refusal (asks_below servers uid p) }
 {
     if servers <= uid {
-        return BAD_UID;
+        return Err(Refusal::BadUid);
     }
     if servers <= p.dst {
-        return BAD_UID;
+        return Err(Refusal::BadUid);
     }
     if !proxy_fits(servers, p) {
-        return BAD_UID;
+        return Err(Refusal::BadUid);
     }
     if MOST_RETRY < p.retry {
-        return BAD_RETRY;
+        return Err(Refusal::BadRetry);
     }
-    0
+    Ok(())
 }
 
-// The refusal for a table that has to have so many bytes, and a packet at a server, in a hall of so many; 0 for none.
-fn refused(servers: u32, bytes: usize, table: &[u8], uid: u32, p: Packet) -> u32
-    ensures { result ≡ refusal ((bad_length, eqb (length table.now) bytes) ∷ asks_below servers uid p) }
+// The refusal for a table that has to have so many bytes, and a packet at a server, in a hall of so many.
+fn refused(servers: u32, bytes: usize, table: &[u8], uid: u32, p: Packet) -> Result<(), Refusal>
+    ensures { refusal_in result ≡ refusal ((bad_length, eqb (length table.now) bytes) ∷ asks_below servers uid p) }
 {
     if table.len() != bytes {
-        return BAD_LENGTH;
+        return Err(Refusal::BadLength);
     }
     refused_packet(servers, uid, p)
-}
-
-// A step that is refused.
-fn refused_step(number: u32) -> Step
-    ensures { result ≡ refused_step number }
-{
-    Step {
-        refusal: number,
-        ending: 0,
-        next: 0,
-        packet: Packet {
-            dst: 0,
-            has_proxy: false,
-            proxy: 0,
-            retry: 0,
-            ttl: 0,
-        },
-        reroutes: 0,
-    }
 }
 
 // The bytes of a step's table, where a DCell(b) has so many servers.
@@ -673,19 +639,16 @@ fn step_bytes(h: Hall, cell: u32) -> usize
 }
 
 // One forwarding step at a server, over the table that it is lent: the codes of its own DCell(b), and behind them the far codes.
-pub fn forward_step(h: Hall, uid: u32, packet: Packet, table: &[u8]) -> Step
-    ensures { result ≡ step_of h uid packet table.now }
+pub fn forward_step(h: Hall, uid: u32, packet: Packet, table: &[u8]) -> Result<Step, Refusal>
+    ensures { step_stated result ≡ step_of h uid packet table.now }
 {
     let servers = hall::servers_of(h);
     if servers == 0 {
-        return refused_step(BAD_HALL);
+        return Err(Refusal::BadHall);
     }
     let cell = cell_size(h);
-    let number = refused(servers, step_bytes(h, cell), table, uid, packet);
-    if number != 0 {
-        return refused_step(number);
-    }
-    step_at(h, false, table, uid, packet)
+    refused(servers, step_bytes(h, cell), table, uid, packet)?;
+    Ok(step_at(h, false, table, uid, packet))
 }
 
 // No uid passed.
@@ -699,7 +662,7 @@ fn no_uids() -> [u32; MOST_PASSED]
 // that no journey has.
 fn travel(h: Hall, table: &[u8], source: u32, packet: Packet) -> Journey
     requires { Departing h table.now source packet }
-    ensures { result ≡ journey_from (trip h (counted h 0 table.now) source packet) }
+    ensures { journey_told result ≡ journey_from (trip h (counted h 0 table.now) source packet) }
 {
     let mut uids = no_uids();
     let mut me = source;
@@ -710,45 +673,30 @@ fn travel(h: Hall, table: &[u8], source: u32, packet: Packet) -> Journey
         uids[at] = me;
         let o = step_at(h, true, table, me, p);
         reroutes += o.reroutes;
-        if o.ending != FORWARDED {
-            return Journey {
-                refusal: 0,
-                ending: o.ending,
-                links: at as u32,
-                reroutes,
-                uids,
-            };
+        match o.onward {
+            Onward::Ends { ending } => {
+                return Journey {
+                    ending,
+                    links: at as u32,
+                    reroutes,
+                    uids,
+                };
+            }
+            Onward::To { next } => me = next,
         }
-        me = o.next;
         p = o.packet;
         at += 1;
     }
 }
 
-// A journey that is refused.
-fn refused_journey(number: u32) -> Journey
-    ensures { result ≡ refused_journey number }
-{
-    Journey {
-        refusal: number,
-        ending: 0,
-        links: 0,
-        reroutes: 0,
-        uids: no_uids(),
-    }
-}
-
 // A journey from a source, over the hall table.
-pub fn journey_of(h: Hall, source: u32, packet: Packet, table: &[u8]) -> Journey
-    ensures { result ≡ journey_of h source packet table.now }
+pub fn journey_of(h: Hall, source: u32, packet: Packet, table: &[u8]) -> Result<Journey, Refusal>
+    ensures { journey_stated result ≡ journey_of h source packet table.now }
 {
     let servers = hall::servers_of(h);
     if servers == 0 {
-        return refused_journey(BAD_HALL);
+        return Err(Refusal::BadHall);
     }
-    let number = refused(servers, bytes_of(servers, h.k), table, source, packet);
-    if number != 0 {
-        return refused_journey(number);
-    }
-    travel(h, table, source, packet)
+    refused(servers, bytes_of(servers, h.k), table, source, packet)?;
+    Ok(travel(h, table, source, packet))
 }

@@ -4,7 +4,7 @@ use mathlib.Core.List.{List}
 use Prim.Native.Nat.{ℕ, ◌≤◌, ◌<◌}
 use borrow.Author.Tests.{eq-eqb, ne_eqb, le-ltb, lt-ltb}
 use Rattle.hall.specs.Refusals.{bad_range}
-use Rattle.forward.specs.declared.Journey.{Journey}
+use Rattle.forward.specs.Answers.{JourneyAnswer}
 use Rattle.sheet.specs.declared.Sheet.{Sheet}
 use Rattle.sheetparts.specs.declared.SheetPacket.{SheetPacket}
 use Rattle.sheetparts.specs.Parts.{packet_fields}
@@ -28,7 +28,7 @@ module _ (s : List ℕ) (read : Sheet) (i : ℕ) where
   refused_journey_lem e h = rw (eq-eqb read.refusal 0 e, lt-ltb i read.packets h)
 
   -- the text, by its packet and its journey
-  pub text_told : (p : SheetPacket) (j : Journey) → p ≡ packet_fields s i → j ≡ journey_at s read i → packet_line (report_of p j) j.uids ≡ journey_text s read i
+  pub text_told : (p : SheetPacket) (j : JourneyAnswer) → p ≡ packet_fields s i → j ≡ journey_at s read i → packet_line (report_of p j) j.uids ≡ journey_text s read i
   unfolding journey_text
   text_told p j e f = rw (e, f)
 

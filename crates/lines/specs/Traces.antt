@@ -5,7 +5,7 @@ use Rattle.combine.specs.Tests.{pick}
 use Rattle.hall.specs.Refusals.{refusal, answered, bad_range, short_room}
 use Rattle.forward.specs.declared.Packet.{Packet}
 use Rattle.forward.specs.Packets.{unproxied}
-use Rattle.forward.specs.declared.Journey.{Journey}
+use Rattle.forward.specs.Answers.{JourneyAnswer}
 use Rattle.forward.specs.Answers.{journey_of}
 use Rattle.sheet.specs.declared.Sheet.{Sheet}
 use Rattle.sheet.specs.Answers.{sheet_of}
@@ -27,11 +27,11 @@ abbrev pub departing : SheetPacket → Packet
 departing p = unproxied p.dst p.retry p.ttl
 
 -- the journey of packet i over the sheet's codes
-unfoldable pub journey_at : List ℕ → Sheet → ℕ → Journey
+unfoldable pub journey_at : List ℕ → Sheet → ℕ → JourneyAnswer
 journey_at s read i = journey_of read.hall (packet_fields s i).source (departing (packet_fields s i)) (codes_part s)
 
 -- what became of a packet: its source, its dst, and its journey's ending and counts
-abbrev pub report_of : SheetPacket → Journey → PacketReport
+abbrev pub report_of : SheetPacket → JourneyAnswer → PacketReport
 report_of p j = record { source = p.source; dst = p.dst; ending = j.ending; links = j.links; reroutes = j.reroutes }
 
 -- source dst ENDING links reroutes : uids

@@ -36,7 +36,7 @@ use Rattle.ends.specs.Tables.{step_table, cell_part}
 use Rattle.ends.proofs.Tables.{near_part}
 use Rattle.counted.proofs.Counted.{counted_full}
 use Rattle.forward.specs.declared.Packet.{Packet}
-use Rattle.forward.specs.declared.Step.{Step}
+use Rattle.forward.specs.Packets.{StepAnswer}
 use Rattle.forward.specs.Packets.{forwarded, delivered, cleared, tidied, is_arrived, goal, aged}
 use Rattle.forward.specs.Seen.{usable, seen}
 use Rattle.forward.specs.Steps.{reachable, step_on}
@@ -76,7 +76,7 @@ abbrev passes : Hall → ℕ → ℕ → ℕ → List ℕ
 passes h f x y = passed (onward h) h.n h.b h.k f x y
 
 -- a step at x of a packet without a proxy: it forwards by that hop, without a reroute
-record Onward (h : Hall) (x : ℕ) (p : Packet) (o : Step) : Type 0 where
+record Onward (h : Hall) (x : ℕ) (p : Packet) (o : StepAnswer) : Type 0 where
   goes : o.ending ≡ forwarded
   hops_so : o.next ≡ onwards h x p.dst
   not_rerouted : o.reroutes ≡ 0
@@ -163,10 +163,10 @@ module _ (h : Hall) (table : List ℕ) (is_valid : valid h ≡ true) (long : len
   step_there : (x : ℕ) (p : Packet) → p.has_proxy ≡ false → x ≡ p.dst → ((step_at h table x p).ending ≡ delivered) × ((step_at h table x p).reroutes ≡ 0)
   step_there x p e q =
       let w = cleared_step x p e ∙ there_delivered h (sight h table x) x (cleared p) q in
-      (ap (λ (o : Step). o.ending) w, ap (λ (o : Step). o.reroutes) w)
+      (ap (λ (o : StepAnswer). o.ending) w, ap (λ (o : StepAnswer). o.reroutes) w)
 
   step_out : (x : ℕ) (p : Packet) → p.has_proxy ≡ false → (x ≡ p.dst → ⊥) → p.ttl ≡ 0 → (step_at h table x p).reroutes ≡ 0
-  step_out x p e d z = ap (λ (o : Step). o.reroutes) (cleared_step x p e ∙ there_drop_ttl h (sight h table x) x (cleared p) d z)
+  step_out x p e d z = ap (λ (o : StepAnswer). o.reroutes) (cleared_step x p e ∙ there_drop_ttl h (sight h table x) x (cleared p) d z)
 
   -- a journey passes the servers that the hops say, without a reroute, and is delivered where the last of them is dst
   record Goes (x : ℕ) (p : Packet) (j : Trip) : Type 0 where
@@ -196,7 +196,7 @@ module _ (h : Hall) (table : List ℕ) (is_valid : valid h ≡ true) (long : len
       (λ z. let w = eqb-true p.ttl 0 z in rw w (passed_out (onward h) h.n h.b h.k x p.dst))
       (λ z. absurd (d (step_goes x p e here there (eqb-false x p.dst q) (omega (arith, eqb-false p.ttl 0 z))).goes))))
   goes {x} {p} (one_step {rest = rest} w further) e here there =
-      let o : Step = step_at h table x p in
+      let o : StepAnswer = step_at h table x p in
       let sends = step_sends h table x p w in
       let ne : x ≡ p.dst → ⊥ = λ q. five (sym (step_there x p e q).0 ∙ w) in
       let g = step_goes x p e here there ne (omega (arith, sends.ttl)) in

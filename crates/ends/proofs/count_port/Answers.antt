@@ -32,26 +32,26 @@ within : (c : In-loop-p) → let a = c.args in first_of a.h a.uid + c.loop-p.p <
 within c = uid_within c.args.h c.args.uid _ (valid_known _ c.requires.0) c.requires.1 (place c)
 
 -- its code is in the room
-stands_in : (c : In-loop-p) → c.args.at + c.loop-p.p * c.args.step < length c.args.room.now
+stands_in : (c : In-loop-p) → c.loop-p.next < length c.args.room.now
 stands_in c =
     let m : suc c.loop-p.p * c.args.step ≤ cell_size c.args.h * c.args.step = mul-le-mul_right c.args.step (place c) in
-    omega (arith, m, c.requires.6)
+    omega (arith, m, c.loop-p.invariant.0, c.requires.6)
 
 pub nonzero_div-first : goal.nonzero_div-first
 nonzero_div-first c = omega (arith, counted (goal.at.nonzero_div-first c).After-size_of-count, size_pos _ (valid_known _ c.requires.0))
 
 pub loop-p-init : goal.loop-p-init
 unfolding spread
-loop-p-init c = refl
+loop-p-init c = (omega arith, refl)
 
-pub overflow_add-place : goal.overflow_add-place
-overflow_add-place c = omega (arith, stands_in (goal.at.overflow_add-place c).In-loop-p)
+pub overflow_add-next : goal.overflow_add-next
+overflow_add-next c = omega (arith, stands_in (goal.at.overflow_add-next c).In-loop-p, (valid_known _ c.requires.0).k_high, c.requires.5)
 
 pub overflow_add-first : goal.overflow_add-first
 overflow_add-first c = omega (arith, server (goal.at.overflow_add-first c).In-loop-p, uid_fits c.args.h (valid_known _ c.requires.0) _ (within (goal.at.overflow_add-first c).In-loop-p))
 
-pub bounds-room-place : goal.bounds-room-place
-bounds-room-place c = omega (arith, stands_in (goal.at.bounds-room-place c).In-loop-p, c.loop-p.auto.room)
+pub bounds-room-next : goal.bounds-room-next
+bounds-room-next c = omega (arith, stands_in (goal.at.bounds-room-next c).In-loop-p, c.loop-p.auto.room)
 
 pub code_counted-requires : goal.code_counted-requires
 code_counted-requires c =
@@ -62,8 +62,8 @@ code_counted-requires c =
       c.requires.3 ∙ sym (ap (fitted c.args.h) e ∙ fitted_place c.args.h c.requires.0 c.args.uid _ (place (goal.at.code_counted-requires c).In-loop-p)),
     )
 
-pub bounds-room-place-in-loop-p : goal.bounds-room-place-in-loop-p
-bounds-room-place-in-loop-p c = omega (arith, stands_in (goal.at.bounds-room-place-in-loop-p c).In-loop-p, c.loop-p.auto.room)
+pub bounds-room-next-in-loop-p : goal.bounds-room-next-in-loop-p
+bounds-room-next-in-loop-p c = omega (arith, stands_in (goal.at.bounds-room-next-in-loop-p c).In-loop-p, c.loop-p.auto.room)
 
 pub loop-p-preserved : goal.loop-p-preserved
 unfolding spread
@@ -71,12 +71,12 @@ loop-p-preserved c =
     let a = c.args in
     let l = c.loop-p in
     let r = port_more a.h (first_of a.h a.uid) a.port a.room.now a.at a.step l.p _ c.code_counted.result c.requires.4 (server (goal.at.loop-p-preserved c).In-loop-p)
-    (rw l.invariant at c.code_counted.ensures) in
-    rw (l.invariant, r, add-one l.p)
+    (rw (l.invariant.0, l.invariant.1) at c.code_counted.ensures) in
+    (omega (arith, l.invariant.0), rw (l.invariant.0, l.invariant.1, r, add-one l.p))
 
 pub returns : goal.returns
 returns c =
     let a = c.args in
     let l = c.loop-p in
     let e : l.p ≡ cell_size a.h = omega (arith, l.auto.p-end, c.loop-p-test.false, counted (goal.at.returns c).After-size_of-count) in
-    l.invariant ∙ ap (spread a.room.now a.at a.step (port_code a.h (first_of a.h a.uid) a.port a.room.now a.at a.step)) e
+    l.invariant.1 ∙ ap (spread a.room.now a.at a.step (port_code a.h (first_of a.h a.uid) a.port a.room.now a.at a.step)) e

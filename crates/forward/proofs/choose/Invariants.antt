@@ -18,7 +18,7 @@ invariant-loop-place l = (l.chosen ≡ None)
 
 abbrev pub invariant-loop-d : goal.invariant-loop-d
 invariant-loop-d l = (l.chosen ≡ None)
-    × ((q : ℕ) → q < l.count → is_candidate (seen l.h (lent l.h l.whole l.table l.me)) (place_of l.h l.me) l.level q ≡ true → l.d ≤ (seen l.h (lent l.h l.whole l.table l.me)).distance (place_of l.h l.me) q)
+    × ((q : ℕ) → q < l.from.count → is_candidate (seen l.h (lent l.h l.whole l.table l.me)) (place_of l.h l.me) l.level q ≡ true → l.d ≤ (seen l.h (lent l.h l.whole l.table l.me)).distance (place_of l.h l.me) q)
 
 abbrev pub invariant-search : goal.invariant-search
 invariant-search l = (choice_from l.h (seen l.h (lent l.h l.whole l.table l.me)) (place_of l.h l.me) l.level ≡ choice l.h (seen l.h (lent l.h l.whole l.table l.me)) (place_of l.h l.me) l.first) × (l.chosen ≡ None)

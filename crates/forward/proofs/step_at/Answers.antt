@@ -1,7 +1,7 @@
 -- `forward::step_at` meets its contract: lines 1 to 3 are its tests, and what goes on stands at the server.
 use mathlib.Core.Path.{◌≡◌, sym, ◌∙◌, ap}
 use Prim.Native.Nat.{ℕ}
-use Rattle.forward.specs.declared.Step.{Step}
+use Rattle.forward.specs.Packets.{StepAnswer}
 use Rattle.forward.specs.Packets.{drop_ttl, delivered, tidied, goal, ended}
 use Rattle.forward.specs.Seen.{seen}
 use Rattle.forward.specs.Steps.{step_from, step_on}
@@ -33,7 +33,7 @@ seen_ahead c =
     looked _ _ _ _ _ _ _ (goal_looked _ c.is_arrived-arrived.result _ _ c.cleared_if.ensures c.goal.ensures) c.look-outlook.ensures ∙ ap (λ (x : ℕ). outlook_of a.h s a.me x (goal (cleared_if c.is_arrived-arrived.result (tidied a.packet)))) (sym (tidied_dst a.packet))
 
 -- where it goes on, the step is what comes from 4 on
-from_4 : (c : After-look-outlook) (o : Step)
+from_4 : (c : After-look-outlook) (o : StepAnswer)
     → let a = c.args in
     let s = seen a.h (lent a.h a.whole a.table.now a.me) in
     o ≡ step_from a.h s a.me (tidied a.packet) (cleared_if c.is_arrived-arrived.result (tidied a.packet)) c.is_arrived-arrived.result

@@ -3,8 +3,8 @@ use Rattle.counted.specs.Counted.{counted}
 use Rattle.forward.proofs.CodeTrips.{Underway}
 use Rattle.forward.proofs.travel.Given as goal
 
-abbrev pub invariant-loop-h : goal.invariant-loop-h
-invariant-loop-h l = Underway l.h (counted l.h 0 l.table) l.source l.initial.p l.uids l.me l.p l.reroutes l.at
+abbrev pub invariant-loop-ending : goal.invariant-loop-ending
+invariant-loop-ending l = Underway l.h (counted l.h 0 l.table) l.source l.initial.p l.uids l.me l.p l.reroutes l.at
 
-abbrev pub decreases-loop-h : goal.decreases-loop-h
-decreases-loop-h l = l.p.ttl
+abbrev pub decreases-loop-ending : goal.decreases-loop-ending
+decreases-loop-ending l = l.p.ttl

@@ -4,26 +4,26 @@ use Rattle.forward.proofs.CodeSteps.{level_low, level_above, placed}
 use Rattle.forward.proofs.turn.Goals as goal
 
 pub first_level-requires : goal.first_level-requires
-first_level-requires c = level_low _ _ _ _ _ c.requires _ _ _ c.in-Link.is
+first_level-requires c = level_low _ _ _ _ _ c.requires _ _ _ c.in-Some.is
 
 pub choose-requires : goal.choose-requires
 choose-requires c =
     let a = c.requires in
-    (a.standing.here, level_above _ _ _ _ _ a _ _ _ c.in-Link.is _ _ c.first_level.ensures)
+    (a.standing.here, level_above _ _ _ _ _ a _ _ _ c.in-Some.is _ _ c.first_level.ensures)
 
 pub proxy_of-requires : goal.proxy_of-requires
 proxy_of-requires c =
-    placed _ _ _ _ _ c.requires _ _ _ c.in-Link.is c.args.arrived _ c.first_level.ensures
-    _ _ c.choose.ensures c.in_ok-found-in-Link.found.place c.in_ok-found-in-Link.found.level c.in_ok-found-in-Link.was
+    placed _ _ _ _ _ c.requires _ _ _ c.in-Some.is c.args.arrived _ c.first_level.ensures
+    _ _ c.choose.ensures c.in_ok-found-in-Some.found.place c.in_ok-found-in-Some.found.level c.in_ok-found-in-Some.was
 
-pub returns-in-Nothing : goal.returns-in-Nothing
+pub returns-in-None : goal.returns-in-None
 unfolding turn_of
-returns-in-Nothing c = rw (c.in-Nothing.is, c.cleared.ensures)
+returns-in-None c = rw (c.in-None.is, c.cleared.ensures)
 
-pub returns-in_err-found-in-Link : goal.returns-in_err-found-in-Link
+pub returns-in_err-found-in-Some : goal.returns-in_err-found-in-Some
 unfolding turn_of
-returns-in_err-found-in-Link c = rw (c.from_residual.ensures, c.in-Link.is, ← c.first_level.ensures, ← c.choose.ensures, c.in_err-found-in-Link.was)
+returns-in_err-found-in-Some c = rw (c.from_residual.ensures, c.in-Some.is, ← c.first_level.ensures, ← c.choose.ensures, c.in_err-found-in-Some.was)
 
-pub returns-in_ok-found-in-Link : goal.returns-in_ok-found-in-Link
+pub returns-in_ok-found-in-Some : goal.returns-in_ok-found-in-Some
 unfolding turn_of
-returns-in_ok-found-in-Link c = rw (c.in-Link.is, ← c.first_level.ensures, ← c.choose.ensures, c.in_ok-found-in-Link.was, c.proxied.ensures, c.proxy_of.ensures)
+returns-in_ok-found-in-Some c = rw (c.in-Some.is, ← c.first_level.ensures, ← c.choose.ensures, c.in_ok-found-in-Some.was, c.proxied.ensures, c.proxy_of.ensures)
