@@ -32,7 +32,8 @@ use route::Crossing;
 // The most uids that a journey passes.
 pub const MOST_PASSED: usize = 256;
 
-// A packet: its destination, a proxy or none, its retry count and its time to live.
+// A packet: its destination, a proxy or none, its retry count and its time to live. A packet without a proxy may come with any number for one,
+// which an Option would not hold.
 #[derive(Clone, Copy)]
 pub struct Packet {
     pub dst: u32,

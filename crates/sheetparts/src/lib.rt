@@ -13,7 +13,7 @@ use words::word_at;
 // The bytes of a count.
 const COUNT_BYTES: usize = 4;
 
-// A packet of a sheet; or the refusal, and its place.
+// A packet of a sheet; or the refusal, and its place. The refusal is a number, as that of the sheet which it hands on.
 #[derive(Clone, Copy)]
 pub struct SheetPacket {
     pub refusal: u32,
