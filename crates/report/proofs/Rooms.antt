@@ -9,8 +9,7 @@ use lib.Dec.{leb}
 use borrow.Author.Tests.{leb-true}
 use Rattle.words.specs.Rooms.{put, roomy, room_of}
 use Rattle.words.proofs.Rooms.{put_put, put_byte}
-use Rattle.report.specs.declared.Written.{Written}
-use Rattle.report.specs.Rooms.{written_of}
+use Rattle.report.specs.Rooms.{WrittenAnswer, no_line, written_of}
 
 -- a text behind what was written, by where its writer began and ended
 pub put_next : (room : List ℕ) (at : ℕ) (a b : List ℕ) (r next : ℕ) (l k : List ℕ)
@@ -28,13 +27,13 @@ byte_next room at a r l byte e h =
 
 -- a line that is refused, and one that is written, by the test of the room
 pub line_short : (room : List ℕ) (at : ℕ) (text : List ℕ) (t : Bool) → t ≡ leb (at + length text) (length room) → t ≡ false
-    → (◌≡◌ {A = Written} (record { refusal = 6; end = 0 }) (written_of room at text)) × (room ≡ room_of room at text)
+    → (no_line 6 ≡ written_of room at text) × (room ≡ room_of room at text)
 unfolding roomy
 line_short room at text t e f = (rw (← e, f), rw (← e, f))
 
 pub line_written : (room : List ℕ) (at : ℕ) (text : List ℕ) (t : Bool) → t ≡ leb (at + length text) (length room) → t ≡ true
     → (end : ℕ) (l : List ℕ) → (end ≡ at + length text) × (l ≡ put room at text)
-    → (◌≡◌ {A = Written} (record { refusal = 0; end = end }) (written_of room at text)) × (l ≡ room_of room at text)
+    → (◌≡◌ {A = WrittenAnswer} (record { refusal = 0; end = end }) (written_of room at text)) × (l ≡ room_of room at text)
 unfolding roomy
 line_written room at text t e f end l w = (rw (← e, f, w.0), rw (← e, f) w.1)
 

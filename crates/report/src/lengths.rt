@@ -2,8 +2,7 @@
 ghost use Rattle.std.specs.Prelude.{◌≡◌, min, ◌+◌, ◌≤◌, leb, length};
 ghost use Rattle.report.specs.Texts.{decimal, ending_text, uids_text, packet_head, hall_line, refused_line, end_line, packet_line};
 
-use crate::{LINE_ROOM, PacketReport};
-use forward::endings::DELIVERED;
+use crate::{DELIVERED, LINE_ROOM, PacketReport};
 use hall::Hall;
 
 // Whether a room of a length has so many bytes from a place on.

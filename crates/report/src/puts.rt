@@ -3,9 +3,8 @@ ghost use Rattle.std.specs.Prelude.{◌≡◌, ◌+◌, ◌≤◌, length};
 ghost use Rattle.report.specs.Texts.{decimal, number_with, ending_text, packet_head, uids_text};
 ghost use Rattle.words.specs.Rooms.{put};
 
-use crate::PacketReport;
 use crate::lengths::digits;
-use forward::endings::DELIVERED;
+use crate::{DELIVERED, PacketReport};
 
 const SPACE: u8 = 32;
 
