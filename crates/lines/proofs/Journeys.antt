@@ -1,18 +1,19 @@
 -- Laws of a packet's line: what it is refused for, and what it then answers.
-use mathlib.Core.Path.{◌≡◌, refl}
+use mathlib.Core.Path.{◌≡◌, refl, ap}
 use mathlib.Core.List.{List}
 use Prim.Native.Nat.{ℕ, ◌≤◌, ◌<◌}
 use borrow.Author.Tests.{eq-eqb, ne_eqb, le-ltb, lt-ltb}
-use Rattle.hall.specs.Refusals.{bad_range}
+use Rattle.std.specs.Prelude.{Result, Ok, Err, MatchResult, IsErrAnd}
+use Rattle.hall.specs.declared.refusals.Refusal.{Refusal}
+use Rattle.hall.specs.Refusals.{number_of, bad_range}
 use Rattle.forward.specs.Answers.{JourneyAnswer}
 use Rattle.sheet.specs.declared.Sheet.{Sheet}
 use Rattle.sheetparts.specs.declared.SheetPacket.{SheetPacket}
 use Rattle.sheetparts.specs.Parts.{packet_fields}
-use Rattle.report.specs.declared.Written.{Written}
 use Rattle.report.specs.Texts.{packet_line}
 use Rattle.words.specs.Rooms.{room_of}
-use Rattle.report.specs.Rooms.{written_of}
-use Rattle.lines.specs.Traces.{journey_at, report_of, journey_text, journey_refusal, unless_written, unless_room}
+use Rattle.report.specs.Rooms.{WrittenAnswer, no_line, written_of, written_stated}
+use Rattle.lines.specs.Traces.{journey_at, report_of, journey_text, journey_refusal, unless_written, unless_room, written_by_number}
 
 module _ (s : List ℕ) (read : Sheet) (i : ℕ) where
   pub refused_sheet : (read.refusal ≡ 0 → ⊥) → journey_refusal s read i ≡ read.refusal
@@ -32,10 +33,17 @@ module _ (s : List ℕ) (read : Sheet) (i : ℕ) where
   unfolding journey_text
   text_told p j e f = rw (e, f)
 
-module _ (room : List ℕ) (at : ℕ) (text : List ℕ) (m n : ℕ) (w : Written) where
-  pub line_refused : m ≡ n → (n ≡ 0 → ⊥) → w ≡ record { refusal = n; end = 0 } → (w ≡ unless_written m room at text) × (room ≡ unless_room m room at text)
+module _ (room : List ℕ) (at : ℕ) (text : List ℕ) (m n : ℕ) (w : WrittenAnswer) where
+  pub line_refused : m ≡ n → (n ≡ 0 → ⊥) → w ≡ no_line n → (w ≡ unless_written m room at text) × (room ≡ unless_room m room at text)
   line_refused e d f = rw (e, ne_eqb n 0 d) (f, refl)
 
   pub line_told : (last : List ℕ) → m ≡ n → n ≡ 0 → (w ≡ written_of room at text) × (last ≡ room_of room at text)
       → (w ≡ unless_written m room at text) × (last ≡ unless_room m room at text)
   line_told last e z f = rw (e, eq-eqb n 0 z) f
+
+-- a line's refusal told by its number
+pub line_numbered : (x : Result ℕ Refusal) (y : Result ℕ ℕ) → MatchResult x (λ end. y ≡ Ok end) (λ r. IsErrAnd y (λ number. number ≡ number_of r))
+    → written_by_number y ≡ written_stated x
+line_numbered (Ok end) y e = ap written_by_number e
+line_numbered (Err r) (Ok end) e = absurd e
+line_numbered (Err r) (Err number) e = ap no_line e

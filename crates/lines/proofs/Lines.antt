@@ -22,6 +22,13 @@ module _ (read : Sheet) where
   unfolding line_count
   count_accepted e = rw (eq-eqb read.refusal 0 e)
 
+  -- only an accepted sheet has a second line
+  pub count_more : (i : ℕ) → 0 < i → i < line_count read → read.refusal ≡ 0
+  count_more i p h =
+      cases (eqb read.refusal 0)
+      (λ q. eqb-true read.refusal 0 q)
+      (λ q. absurd (omega (arith, count_refused (eqb-false read.refusal 0 q))))
+
 module _ (s : List ℕ) (read : Sheet) where
   pub line_first : line_text s read 0 ≡ opening_text read
   unfolding line_text

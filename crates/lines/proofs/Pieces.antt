@@ -12,12 +12,10 @@ use Rattle.hall.specs.Refusals.{refusal, bad_range, short_room}
 use Rattle.sheet.specs.declared.Sheet.{Sheet}
 use Rattle.sheet.specs.Answers.{sheet_of, packet_place}
 use Rattle.sheet.proofs.Held.{accepted_holds, holds_accepted}
-use Rattle.report.specs.declared.Written.{Written}
 use Rattle.words.specs.Rooms.{put, roomy, room_of}
 use Rattle.words.proofs.Rooms.{put_none, put_put, length-put}
-use Rattle.report.specs.Rooms.{written_of}
-use Rattle.lines.specs.declared.Piece.{Piece}
-use Rattle.lines.specs.Traces.{line_count, line_text, lines_text, fitting, fitting_text, fitting_piece, piece_refusal, piece_of, room_piece}
+use Rattle.report.specs.Rooms.{WrittenAnswer, written_of}
+use Rattle.lines.specs.Traces.{PieceAnswer, no_piece, line_count, line_text, lines_text, fitting, fitting_text, fitting_piece, piece_refusal, piece_of, room_piece}
 use Rattle.lines.proofs.Lines.{lines_none, lines_more, lines_append, fitting_more, fitting_full, fitting_none, fitting_within, fitting_length}
 
 -- an accepted sheet has few packets
@@ -28,27 +26,27 @@ few_packets s ok =
     omega (arith, ap (λ (x : Sheet). x.packets) (holds_accepted s a), a.whole, a.short)
 
 -- what a call that writes a line leaves: its answer, and the room
-abbrev pub Lined : List ℕ → ℕ → List ℕ → Written → List ℕ → Type 0
+abbrev pub Lined : List ℕ → ℕ → List ℕ → WrittenAnswer → List ℕ → Type 0
 Lined room at text w after = (w ≡ written_of room at text) × (after ≡ room_of room at text)
 
 -- what is known of a line that was written, and of one that the room was short for
-module _ (room : List ℕ) (at : ℕ) (text : List ℕ) (w : Written) (after : List ℕ) (e : Lined room at text w after) where
+module _ (room : List ℕ) (at : ℕ) (text : List ℕ) (w : WrittenAnswer) (after : List ℕ) (e : Lined room at text w after) where
   pub written_there : w.refusal ≡ 0 → (at + length text ≤ length room) × (w.end ≡ at + length text) × (after ≡ put room at text)
   unfolding roomy
   written_there z =
       cases (leb (at + length text) (length room))
-      (λ q. (leb-true (at + length text) (length room) q, ap (λ (x : Written). x.end) (rw q at e.0), rw q at e.1))
-      (λ q. absurd (omega (arith, z, ap (λ (x : Written). x.refusal) (rw q at e.0))))
+      (λ q. (leb-true (at + length text) (length room) q, ap (λ (x : WrittenAnswer). x.end) (rw q at e.0), rw q at e.1))
+      (λ q. absurd (omega (arith, z, ap (λ (x : WrittenAnswer). x.refusal) (rw q at e.0))))
 
   pub written_short : (w.refusal ≡ 0 → ⊥) → (length room < at + length text) × (after ≡ room)
   unfolding roomy
   written_short d =
       cases (leb (at + length text) (length room))
-      (λ q. absurd (d (ap (λ (x : Written). x.refusal) (rw q at e.0))))
+      (λ q. absurd (d (ap (λ (x : WrittenAnswer). x.refusal) (rw q at e.0))))
       (λ q. (leb-false (at + length text) (length room) q, rw q at e.1))
 
 -- what writing as many lines as fit leaves
-abbrev pub Fitted : List ℕ → Sheet → List ℕ → ℕ → ℕ → Piece → List ℕ → Type 0
+abbrev pub Fitted : List ℕ → Sheet → List ℕ → ℕ → ℕ → PieceAnswer → List ℕ → Type 0
 Fitted s read room from left r after =
     (r ≡ fitting_piece s read (length room) from left) × (after ≡ put room 0 (fitting_text s read (length room) from left))
 
@@ -81,7 +79,7 @@ module _ (s : List ℕ) (read : Sheet) (first : List ℕ) (from lines : ℕ) whe
     kept = ap length u.text ∙ length-put first 0 (lines_text s read from u.count) (omega (arith, u.place, u.within))
 
     -- a line more
-    pub goes_on : next < lines → (w : Written) (after : List ℕ)
+    pub goes_on : next < lines → (w : WrittenAnswer) (after : List ℕ)
         → Lined room end (line_text s read next) w after → w.refusal ≡ 0
         → Underway s read first after from lines (next + 1) w.end
     goes_on h w after e z =
@@ -110,7 +108,7 @@ module _ (s : List ℕ) (read : Sheet) (first : List ℕ) (from lines : ℕ) whe
         → Fitted s read first from (lines - from) (record { refusal = 0; next = next; end = end }) room
     ends e = (rw (e, u.at, u.place), rw e u.text)
 
-    pub ends_full : next < lines → (w : Written) (after : List ℕ)
+    pub ends_full : next < lines → (w : WrittenAnswer) (after : List ℕ)
         → Lined room end (line_text s read next) w after → (w.refusal ≡ 0 → ⊥)
         → Fitted s read first from (lines - from) (record { refusal = 0; next = next; end = end }) after
     ends_full h w after e d =
@@ -154,15 +152,15 @@ module _ (s : List ℕ) (from : ℕ) (room : List ℕ) where
       (λ q. leb-false (length (line_text s read from)) (length room) q)
 
   module _ (read : Sheet) (lines : ℕ) (same : read ≡ sheet_of s) (counted : lines ≡ line_count read) where
-    pub piece_range : (r : Piece) → lines ≤ from → r ≡ record { refusal = bad_range; next = 0; end = 0 } → (r ≡ piece_of s from room) × (room ≡ room_piece s from room)
+    pub piece_range : (r : PieceAnswer) → lines ≤ from → r ≡ no_piece bad_range → (r ≡ piece_of s from room) × (room ≡ room_piece s from room)
     piece_range r h e = let n = refused_range (rw (← same, ← counted) h) in rw n (e, refl)
 
-    module _ (r : Piece) (after : List ℕ) (h : from < lines)
+    module _ (r : PieceAnswer) (after : List ℕ) (h : from < lines)
         (e : Fitted s read room from (lines - from) r after) where
-      pub piece_short : r.next ≡ from → (w : Piece) → w ≡ record { refusal = short_room; next = 0; end = 0 }
+      pub piece_short : r.next ≡ from → (w : PieceAnswer) → w ≡ no_piece short_room
           → (w ≡ piece_of s from room) × (after ≡ room_piece s from room)
       piece_short q w f =
-          let z : fitting s read (length room) from (lines - from) ≡ 0 = omega (arith, q, ap (λ (x : Piece). x.next) e.0) in
+          let z : fitting s read (length room) from (lines - from) ≡ 0 = omega (arith, q, ap (λ (x : PieceAnswer). x.next) e.0) in
           let l = none_fits read (lines - from) (omega arith) z in
           let n = refused_room (rw (← same, ← counted) h) (rw (← same) l) in
           let a : after ≡ room = e.1 ∙ rw (z, lines_none s read from) (put_none room 0) in
@@ -170,7 +168,7 @@ module _ (s : List ℕ) (from : ℕ) (room : List ℕ) where
 
       pub piece_written : (r.next ≡ from → ⊥) → (r ≡ piece_of s from room) × (after ≡ room_piece s from room)
       piece_written d =
-          let f : 0 < fitting s read (length room) from (lines - from) = omega (arith, d, ap (λ (x : Piece). x.next) e.0) in
+          let f : 0 < fitting s read (length room) from (lines - from) = omega (arith, d, ap (λ (x : PieceAnswer). x.next) e.0) in
           let n = not_refused (rw (← same, ← counted) h) (rw (← same) (first_fits read (lines - from) f)) in
           rw (n, ← same, ← counted) e
 
@@ -214,19 +212,19 @@ module _ (s : List ℕ) (from : ℕ) (room : List ℕ) where
       rw (n, take_put (lines_text s (sheet_of s) from count), q) (lines_append s (sheet_of s) from count more ∙ rw m)
 
   -- what it brings: a line at least, no line that the trace does not have, and no byte behind the room
-  pub record Forward (r : Piece) : Type 0 where
+  pub record Forward (r : PieceAnswer) : Type 0 where
     pub above : from < r.next
     pub in_trace : r.next ≤ line_count (sheet_of s)
     pub in_room : r.end ≤ length room
 
-  pub goes_forward : (r : Piece) → r ≡ piece_of s from room → r.refusal ≡ 0 → Forward r
+  pub goes_forward : (r : PieceAnswer) → r ≡ piece_of s from room → r.refusal ≡ 0 → Forward r
   goes_forward r e z =
-      let a = asked_there (sym (ap (λ (x : Piece). x.refusal) e) ∙ z) in
+      let a = asked_there (sym (ap (λ (x : PieceAnswer). x.refusal) e) ∙ z) in
       let p = rw (not_refused a.0 a.1) at e in
       let left = line_count (sheet_of s) - from in
       let m = fitting_more s (sheet_of s) (length room) from left (omega (arith, a.0)) a.1 in
       record {
-        above = omega (arith, ap (λ (x : Piece). x.next) p, m);
-        in_trace = omega (arith, ap (λ (x : Piece). x.next) p, a.0, fitting_within s (sheet_of s) (length room) from left);
-        in_room = omega (arith, ap (λ (x : Piece). x.end) p, fitting_length s (sheet_of s) (length room) from left);
+        above = omega (arith, ap (λ (x : PieceAnswer). x.next) p, m);
+        in_trace = omega (arith, ap (λ (x : PieceAnswer). x.next) p, a.0, fitting_within s (sheet_of s) (length room) from left);
+        in_room = omega (arith, ap (λ (x : PieceAnswer). x.end) p, fitting_length s (sheet_of s) (length room) from left);
       }

@@ -1,8 +1,9 @@
 -- The trace of a sheet: its hall, a line for the journey of each packet, and the number of packets; or the sheet's refusal alone.
 -- Section "The night sheet".
-use Rattle.std.specs.Prelude.{List, [], ◌∷◌, ◌++◌, ℕ, zero, suc, ◌+◌, ◌-◌, eqb, leb, ltb, length}
+use Rattle.std.specs.Prelude.{List, [], ◌∷◌, ◌++◌, ℕ, zero, suc, ◌+◌, ◌-◌, eqb, leb, ltb, length, Result, Ok, Err}
 use Rattle.combine.specs.Tests.{pick}
-use Rattle.hall.specs.Refusals.{refusal, answered, bad_range, short_room}
+use Rattle.hall.specs.declared.refusals.Refusal.{Refusal}
+use Rattle.hall.specs.Refusals.{refusal, answered, stated, bad_range, short_room}
 use Rattle.forward.specs.declared.Packet.{Packet}
 use Rattle.forward.specs.Packets.{unproxied}
 use Rattle.forward.specs.Answers.{JourneyAnswer}
@@ -11,11 +12,10 @@ use Rattle.sheet.specs.declared.Sheet.{Sheet}
 use Rattle.sheet.specs.Answers.{sheet_of}
 use Rattle.sheetparts.specs.declared.SheetPacket.{SheetPacket}
 use Rattle.sheetparts.specs.Parts.{codes_part, packet_fields}
-use Rattle.report.specs.declared.Written.{Written}
 use Rattle.report.specs.declared.PacketReport.{PacketReport}
 use Rattle.report.specs.Texts.{hall_line, refused_line, end_line, packet_line}
 use Rattle.words.specs.Rooms.{put, roomy, room_of}
-use Rattle.report.specs.Rooms.{written_of}
+use Rattle.report.specs.Rooms.{WrittenAnswer, no_line, written_of}
 use Rattle.lines.specs.declared.Piece.{Piece}
 
 -- HALL n k b, or REFUSED number place
@@ -44,11 +44,16 @@ journey_refusal s read i =
     pick (eqb read.refusal 0) (pick (ltb i read.packets) (journey_at s read i).refusal bad_range) read.refusal
 
 -- a line that is written unless there is a refusal: the answer, and the room at exit
-abbrev pub unless_written : ℕ → List ℕ → ℕ → List ℕ → Written
-unless_written number room at text = pick (eqb number 0) (written_of room at text) (record { refusal = number; end = 0 })
+abbrev pub unless_written : ℕ → List ℕ → ℕ → List ℕ → WrittenAnswer
+unless_written number room at text = pick (eqb number 0) (written_of room at text) (no_line number)
 
 abbrev pub unless_room : ℕ → List ℕ → ℕ → List ℕ → List ℕ
 unless_room number room at text = pick (eqb number 0) (room_of room at text) room
+
+-- the number and the place of a line whose refusal is told by its number
+abbrev pub written_by_number : Result ℕ ℕ → WrittenAnswer
+written_by_number (Ok end) = record { refusal = 0; end = end }
+written_by_number (Err number) = no_line number
 
 -- the lines of the packets 0, 1, .., one behind the other
 unfoldable pub journeys_text : List ℕ → Sheet → ℕ → List ℕ
@@ -87,7 +92,12 @@ abbrev pub fitting_text : List ℕ → Sheet → ℕ → ℕ → ℕ → List �
 fitting_text s read bytes from left = lines_text s read from (fitting s read bytes from left)
 
 -- the first line that is not written, and the place behind the text
-abbrev pub fitting_piece : List ℕ → Sheet → ℕ → ℕ → ℕ → Piece
+pub record PieceAnswer : Type 0 where
+  pub refusal : ℕ
+  pub next : ℕ
+  pub end : ℕ
+
+abbrev pub fitting_piece : List ℕ → Sheet → ℕ → ℕ → ℕ → PieceAnswer
 fitting_piece s read bytes from left =
     record { refusal = 0; next = from + fitting s read bytes from left; end = length (fitting_text s read bytes from left) }
 
@@ -96,12 +106,23 @@ abbrev pub piece_refusal : List ℕ → ℕ → List ℕ → ℕ
 piece_refusal s from room =
     refusal ((bad_range, ltb from (line_count (sheet_of s))) ∷ (short_room, roomy room 0 (line_text s (sheet_of s) from)) ∷ [])
 
+-- a piece that is refused
+abbrev pub no_piece : ℕ → PieceAnswer
+no_piece number = record { refusal = number; next = 0; end = 0 }
+
 -- a piece of the trace: as many whole lines from a line on as fit the room
-abbrev pub piece_of : List ℕ → ℕ → List ℕ → Piece
+abbrev pub piece_of : List ℕ → ℕ → List ℕ → PieceAnswer
 piece_of s from room =
     answered (piece_refusal s from room)
     (fitting_piece s (sheet_of s) (length room) from (line_count (sheet_of s) - from))
-    (λ number. record { refusal = number; next = 0; end = 0 })
+    no_piece
+
+-- the numbers of a piece, and the refusal's number or them
+abbrev pub piece_told : Piece → PieceAnswer
+piece_told piece = record { refusal = 0; next = piece.next; end = piece.end }
+
+abbrev pub piece_stated : Result Piece Refusal → PieceAnswer
+piece_stated = stated piece_told no_piece
 
 -- the room at exit: the text at its start and the rest unchanged, or all as lent
 abbrev pub room_piece : List ℕ → ℕ → List ℕ → List ℕ

@@ -2,29 +2,30 @@
 
 #![tactic(auto)]
 
-ghost use Rattle.std.specs.Prelude.{◌≡◌, ◌-◌, ◌≤◌, length};
+ghost use Rattle.std.specs.Prelude.{◌≡◌, ◌-◌, ◌≤◌, ◌<◌, length};
 ghost use Rattle.words.specs.Rooms.{put, room_of};
-ghost use Rattle.report.specs.Rooms.{written_of};
+ghost use Rattle.sheet.specs.Answers.{sheet_of};
+ghost use Rattle.forward.specs.Answers.{journey_told, journey_stated};
+ghost use Rattle.report.specs.Rooms.{written_of, written_stated};
 ghost use Rattle.report.specs.Texts.{packet_line};
-ghost use Rattle.lines.specs.Traces.{opening_text, journey_at, report_of, journey_text, journey_refusal, unless_written, unless_room, line_count, line_text, fitting_text, fitting_piece, piece_of, room_piece};
+ghost use Rattle.lines.specs.Traces.{opening_text, journey_at, report_of, journey_text, journey_refusal, unless_written, unless_room, written_by_number, line_count, line_text, fitting_text, fitting_piece, piece_of, piece_told, piece_stated, room_piece};
 
 use forward::{Journey, Packet};
-use hall::refusals::{BAD_RANGE, SHORT_ROOM};
-use report::{PacketReport, Written};
+use hall::refusals::Refusal;
+use report::PacketReport;
 use sheet::Sheet;
 use sheetparts::SheetPacket;
 
-// The first line of a trace that is not written, and the place behind the text that is; or the refusal.
+// The first line of a trace that is not written, and the place behind the text that is.
 #[derive(Clone, Copy)]
 pub struct Piece {
-    pub refusal: u32,
     pub next: u32,
     pub end: usize,
 }
 
 // The first line, by what reading the sheet answered: its hall, or its refusal.
-pub fn opening_line(room: &mut [u8], at: usize, read: Sheet) -> Written
-    ensures answer { result ≡ written_of room.old at (opening_text read) }
+pub fn opening_line(room: &mut [u8], at: usize, read: Sheet) -> Result<usize, Refusal>
+    ensures answer { written_stated result ≡ written_of room.old at (opening_text read) }
     ensures room { room.new ≡ room_of room.old at (opening_text read) }
 {
     if read.refusal != 0 {
@@ -33,19 +34,9 @@ pub fn opening_line(room: &mut [u8], at: usize, read: Sheet) -> Written
     report::hall_line(room, at, read.hall)
 }
 
-// A refused line.
-fn refused_with(number: u32) -> Written
-    ensures { result ≡ record { refusal = number; end = 0 } }
-{
-    Written {
-        refusal: number,
-        end: 0,
-    }
-}
-
 // The journey of packet i, which has no proxy.
-fn journey_at(sheet: &[u8], read: Sheet, i: u32) -> Journey
-    ensures { result ≡ journey_at sheet.now read i }
+fn journey_at(sheet: &[u8], read: Sheet, i: u32) -> Result<Journey, Refusal>
+    ensures { journey_stated result ≡ journey_at sheet.now read i }
 {
     let p = sheetparts::packet_fields(sheet, i);
     let packet = Packet {
@@ -59,51 +50,61 @@ fn journey_at(sheet: &[u8], read: Sheet, i: u32) -> Journey
 }
 
 // The line of a packet and its journey.
-fn told_line(room: &mut [u8], at: usize, p: SheetPacket, j: Journey) -> Written
-    ensures answer { result ≡ written_of room.old at (packet_line (report_of p j) j.uids) }
-    ensures room { room.new ≡ room_of room.old at (packet_line (report_of p j) j.uids) }
+fn told_line(room: &mut [u8], at: usize, p: SheetPacket, j: &Journey) -> Result<usize, Refusal>
+    ensures answer { written_stated result ≡ written_of room.old at (packet_line (report_of p (journey_told j.now)) j.now.uids) }
+    ensures room { room.new ≡ room_of room.old at (packet_line (report_of p (journey_told j.now)) j.now.uids) }
 {
     let told = PacketReport {
         source: p.source,
         dst: p.dst,
-        ending: j.ending,
+        ending: j.ending.number(),
         links: j.links,
         reroutes: j.reroutes,
     };
-    let uids = j.uids;
-    report::packet_line(room, at, told, &uids)
+    report::packet_line(room, at, told, &j.uids)
 }
 
-// The line of packet i's journey, for whoever has read the sheet.
-pub fn journey_line(room: &mut [u8], at: usize, sheet: &[u8], read: Sheet, i: u32) -> Written
-    ensures answer { result ≡ unless_written (journey_refusal sheet.now read i) room.old at (journey_text sheet.now read i) }
+// The line of packet i's journey, for whoever has read the sheet. A refusal is told by its number, since a `Sheet` may have any.
+pub fn journey_line(
+    room: &mut [u8],
+    at: usize,
+    sheet: &[u8],
+    read: Sheet,
+    i: u32,
+) -> Result<usize, u32>
+    ensures answer { written_by_number result ≡ unless_written (journey_refusal sheet.now read i) room.old at (journey_text sheet.now read i) }
     ensures room { room.new ≡ unless_room (journey_refusal sheet.now read i) room.old at (journey_text sheet.now read i) }
 {
     if read.refusal != 0 {
-        return refused_with(read.refusal);
+        return Err(read.refusal);
     }
     if read.packets <= i {
-        return refused_with(BAD_RANGE);
+        return Err(Refusal::BadRange.number());
     }
-    let j = journey_at(sheet, read, i);
-    if j.refusal != 0 {
-        return refused_with(j.refusal);
+    let p = sheetparts::packet_fields(sheet, i);
+    match journey_at(sheet, read, i) {
+        Ok(j) => told_line(room, at, p, &j).map_err(Refusal::number),
+        Err(refusal) => Err(refusal.number()),
     }
-    told_line(room, at, sheetparts::packet_fields(sheet, i), j)
 }
 
-// The line of packet i's journey, which is not refused where the sheet is not.
-fn told_at(room: &mut [u8], at: usize, sheet: &[u8], read: Sheet, i: u32) -> Written
-    ensures answer { result ≡ written_of room.old at (journey_text sheet.now read i) }
+// The line of packet i's journey of an accepted sheet, which refuses none.
+fn told_at(room: &mut [u8], at: usize, sheet: &[u8], read: Sheet, i: u32) -> Result<usize, Refusal>
+    requires { (read ≡ sheet_of sheet.now) × (read.refusal ≡ 0) × (i < read.packets) }
+    ensures answer { written_stated result ≡ written_of room.old at (journey_text sheet.now read i) }
     ensures room { room.new ≡ room_of room.old at (journey_text sheet.now read i) }
 {
     let p = sheetparts::packet_fields(sheet, i);
-    told_line(room, at, p, journey_at(sheet, read, i))
+    let Ok(j) = journey_at(sheet, read, i) else {
+        unreachable!()
+    };
+    told_line(room, at, p, &j)
 }
 
-// Line i of a trace.
-fn line_at(room: &mut [u8], at: usize, sheet: &[u8], read: Sheet, i: u32) -> Written
-    ensures answer { result ≡ written_of room.old at (line_text sheet.now read i) }
+// Line i of a sheet's trace.
+fn line_at(room: &mut [u8], at: usize, sheet: &[u8], read: Sheet, i: u32) -> Result<usize, Refusal>
+    requires { (read ≡ sheet_of sheet.now) × (i < line_count read) }
+    ensures answer { written_stated result ≡ written_of room.old at (line_text sheet.now read i) }
     ensures room { room.new ≡ room_of room.old at (line_text sheet.now read i) }
 {
     if i == 0 {
@@ -128,53 +129,33 @@ fn line_count(read: Sheet) -> u32
 
 // As many whole lines as fit the room, from a line on, of so many that there are: the first that is not written, and the place behind the text.
 fn put_lines(room: &mut [u8], sheet: &[u8], read: Sheet, from: u32, count: u32) -> Piece
-    requires { from ≤ count }
-    ensures answer { result ≡ fitting_piece sheet.now read (length room.old) from (count - from) }
+    requires { (read ≡ sheet_of sheet.now) × (count ≡ line_count read) × (from ≤ count) }
+    ensures answer { piece_told result ≡ fitting_piece sheet.now read (length room.old) from (count - from) }
     ensures room { room.new ≡ put room.old 0 (fitting_text sheet.now read (length room.old) from (count - from)) }
 {
     let mut end: usize = 0;
     for next in from..count {
-        let line = line_at(room, end, sheet, read, next);
-        if line.refusal != 0 {
-            return Piece {
-                refusal: 0,
-                next,
-                end,
-            };
-        }
-        end = line.end;
+        let Ok(behind) = line_at(room, end, sheet, read, next) else {
+            return Piece { next, end };
+        };
+        end = behind;
     }
-    Piece {
-        refusal: 0,
-        next: count,
-        end,
-    }
-}
-
-// A refused piece.
-fn refused_piece(number: u32) -> Piece
-    ensures { result ≡ record { refusal = number; next = 0; end = 0 } }
-{
-    Piece {
-        refusal: number,
-        next: 0,
-        end: 0,
-    }
+    Piece { next: count, end }
 }
 
 // As many whole lines of a sheet's trace as fit the room, from line `from` on: the first line that is not written, and the place behind the text.
-pub fn trace_piece(room: &mut [u8], sheet: &[u8], from: u32) -> Piece
-    ensures answer { result ≡ piece_of sheet.now from room.old }
+pub fn trace_piece(room: &mut [u8], sheet: &[u8], from: u32) -> Result<Piece, Refusal>
+    ensures answer { piece_stated result ≡ piece_of sheet.now from room.old }
     ensures room { room.new ≡ room_piece sheet.now from room.old }
 {
     let read = sheet::read_sheet(sheet);
     let count = line_count(read);
     if count <= from {
-        return refused_piece(BAD_RANGE);
+        return Err(Refusal::BadRange);
     }
     let piece = put_lines(room, sheet, read, from, count);
     if piece.next == from {
-        return refused_piece(SHORT_ROOM);
+        return Err(Refusal::ShortRoom);
     }
-    piece
+    Ok(piece)
 }
