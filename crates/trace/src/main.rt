@@ -13,14 +13,11 @@ const TEXT_ROOM: usize = 65536;
 // Prints the trace of a sheet, one piece behind the other, until there is no more.
 fn print_pieces(rt: &impl Print, sheet: &[u8], room: &mut [u8]) -> io::Result<()> {
     let mut from: u32 = 0;
-    loop {
-        let piece = lines::trace_piece(room, sheet, from);
-        if piece.refusal != 0 {
-            return Ok(());
-        }
+    while let Ok(piece) = lines::trace_piece(room, sheet, from) {
         rt.write_all(&room[..piece.end])?;
         from = piece.next;
     }
+    Ok(())
 }
 
 fn main(rt: HostRuntime) -> io::Result<()> {
