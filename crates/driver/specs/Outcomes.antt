@@ -2,8 +2,8 @@
 -- Sections "Frame header", "Route without failures" and "One forwarding step".
 use Rattle.std.specs.Prelude.{Bool, not, [], ◌∷◌, ℕ, ◌+◌, take, eqb}
 use Rattle.combine.specs.Tests.{pick}
-use Rattle.route.specs.declared.Route.{Route}
-use Rattle.frame.specs.declared.Header.{Header}
+use Rattle.route.specs.Answers.{RouteAnswer}
+use Rattle.frame.specs.Reading.{HeaderAnswer}
 use Rattle.header.specs.declared.Fields.{Fields}
 use Rattle.forward.specs.Packets.{StepAnswer}
 use Rattle.hall.specs.Rooms.{Outcome}
@@ -14,11 +14,11 @@ abbrev pub flag_of : Bool → ℕ
 flag_of b = pick b 1 0
 
 -- a route: its links + 1 uids, without the zeros
-abbrev pub of_route : Route → Outcome
+abbrev pub of_route : RouteAnswer → Outcome
 of_route a = (a.refusal, words_bytes (take (a.links + 1) a.uids))
 
 -- a header: its length in bytes, then its fields in order
-abbrev pub of_header : Header → Outcome
+abbrev pub of_header : HeaderAnswer → Outcome
 of_header a = (
   a.refusal,
   words_bytes (

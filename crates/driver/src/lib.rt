@@ -6,30 +6,28 @@ ghost use Rattle.std.specs.Prelude.{◌≡◌};
 ghost use Rattle.route.specs.Answers.{route_between};
 ghost use Rattle.ends.specs.Answers.{of_step_table};
 ghost use Rattle.forward.specs.Answers.{step_of};
-ghost use Rattle.forward.specs.Packets.{packet_of};
+ghost use Rattle.forward.specs.Packets.{ending_in, next_in, packet_of};
 ghost use Rattle.frame.specs.Reading.{read_frame};
 ghost use Rattle.header.specs.Writing.{write_refusal, room_written};
 ghost use Rattle.hall.specs.Halls.{hall_of};
 ghost use Rattle.hall.specs.Rooms.{told, written};
 ghost use Rattle.words.specs.Words.{words_bytes};
-ghost use Rattle.driver.specs.Outcomes.{flag_of, of_route, of_header, fields_of, of_step};
+ghost use Rattle.driver.specs.Outcomes.{of_route, of_header, fields_of, of_step};
 
 use forward::Packet;
+use forward::endings::Onward;
 use hall::Hall;
-use hall::refusals::SHORT_ROOM;
+use hall::refusals::Refusal;
 use header::Fields;
 use words::put_words;
 
-// An answer: its refusal, and its words in the room where there is none.
-fn tell(number: u32, words: &[u32], room: &mut [u8]) -> u32
-    ensures number { result ≡ told (number, words_bytes words.now) room.old }
-    ensures room { room.new ≡ written (number, words_bytes words.now) room.old }
+// The words of an answer that is not refused, at the start of the room, and 0; or the number of a short room, and the room as lent.
+fn tell(words: &[u32], room: &mut [u8]) -> u32
+    ensures number { result ≡ told (0, words_bytes words.now) room.old }
+    ensures room { room.new ≡ written (0, words_bytes words.now) room.old }
 {
-    if number != 0 {
-        return number;
-    }
     if room.len() / 4 < words.len() {
-        return SHORT_ROOM;
+        return Refusal::ShortRoom.number();
     }
     put_words(room, 0, words);
     0
@@ -40,20 +38,10 @@ pub fn tbexlum_route(n: u32, k: u32, b: u32, count: u32, x: u32, y: u32, room: &
     ensures number { result ≡ told (of_route (route_between (hall_of n k b count) x y)) room.old }
     ensures room { room.new ≡ written (of_route (route_between (hall_of n k b count) x y)) room.old }
 {
-    let a = route::route_between(Hall { n, k, b, count }, x, y);
-    let uids = a.uids;
-    let count = (a.links as usize) + 1;
-    tell(a.refusal, &uids[..count], room)
-}
-
-// 1 for true, 0 for false.
-fn flag(b: bool) -> u32
-    ensures { result ≡ flag_of b }
-{
-    if b {
-        return 1;
+    match route::route_between(Hall { n, k, b, count }, x, y) {
+        Ok(route) => tell(&route.uids[..route.links as usize + 1], room),
+        Err(refusal) => refusal.number(),
     }
-    0
 }
 
 // A frame's header, read.
@@ -61,21 +49,24 @@ pub fn tbexlum_read_header(frame: &[u8], room: &mut [u8]) -> u32
     ensures number { result ≡ told (of_header (read_frame frame.now)) room.old }
     ensures room { room.new ≡ written (of_header (read_frame frame.now)) room.old }
 {
-    let a = frame::read_frame(frame);
-    let has_proxy = flag(a.has_proxy);
-    let words = [
-        a.header_length,
-        a.protocol,
-        a.payload_length,
-        a.identification,
-        a.retry,
-        a.ttl,
-        a.source,
-        a.destination,
-        has_proxy,
-        a.proxy,
-    ];
-    tell(a.refusal, &words, room)
+    match frame::read_frame(frame) {
+        Ok(header) => tell(
+            &[
+                header.header_length,
+                header.protocol,
+                header.payload_length,
+                header.identification,
+                header.retry,
+                header.ttl,
+                header.source,
+                header.destination,
+                u32::from(header.proxy.is_some()),
+                header.proxy.unwrap_or(0),
+            ],
+            room,
+        ),
+        Err(fault) => fault.refusal.number(),
+    }
 }
 
 // The place that goes with the number of a frame's header: the first byte of the field that 13 to 16 are about, 0 with every other number.
@@ -112,14 +103,10 @@ pub fn tbexlum_write_header(
         has_proxy: has_proxy != 0,
         proxy,
     };
-    header::write_header(fields, room)
-}
-
-// A byte as a word.
-fn wide(x: u8) -> u32
-    ensures { result ≡ x }
-{
-    x as u32
+    match header::write_header(fields, room) {
+        Ok(()) => 0,
+        Err(refusal) => refusal.number(),
+    }
 }
 
 // The table that a server's step is lent, from the hall table.
@@ -135,7 +122,30 @@ pub fn tbexlum_step_table(
     ensures number { result ≡ told (of_step_table (hall_of n k b count) table.now uid) room.old }
     ensures room { room.new ≡ written (of_step_table (hall_of n k b count) table.now uid) room.old }
 {
-    ends::step_table(Hall { n, k, b, count }, table, uid, room)
+    match ends::step_table(Hall { n, k, b, count }, table, uid, room) {
+        Ok(()) => 0,
+        Err(refusal) => refusal.number(),
+    }
+}
+
+// The number of a packet's ending, 0 where it goes on.
+fn ending_of(onward: Onward) -> u32
+    ensures { result ≡ ending_in onward }
+{
+    match onward {
+        Onward::To { next: _ } => 0,
+        Onward::Ends { ending } => ending.number(),
+    }
+}
+
+// The next uid of a packet that goes on, 0 where it ends.
+fn next_of(onward: Onward) -> u32
+    ensures { result ≡ next_in onward }
+{
+    match onward {
+        Onward::To { next } => next,
+        Onward::Ends { ending: _ } => 0,
+    }
 }
 
 // One forwarding step at a server, over the table that it is lent; `has_proxy` is 0 where there is no proxy.
@@ -163,13 +173,20 @@ pub fn tbexlum_step(
         retry,
         ttl,
     };
-    let a = forward::forward_step(Hall { n, k, b, count }, uid, packet, table);
-    let p = a.packet;
-    let flagged = flag(p.has_proxy);
-    let left = wide(p.retry);
-    let life = wide(p.ttl);
-    let words = [
-        a.ending, a.next, p.dst, flagged, p.proxy, left, life, a.reroutes,
-    ];
-    tell(a.refusal, &words, room)
+    match forward::forward_step(Hall { n, k, b, count }, uid, packet, table) {
+        Ok(step) => tell(
+            &[
+                ending_of(step.onward),
+                next_of(step.onward),
+                step.packet.dst,
+                u32::from(step.packet.has_proxy),
+                step.packet.proxy,
+                u32::from(step.packet.retry),
+                u32::from(step.packet.ttl),
+                step.reroutes,
+            ],
+            room,
+        ),
+        Err(refusal) => refusal.number(),
+    }
 }

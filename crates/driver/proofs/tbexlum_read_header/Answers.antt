@@ -1,6 +1,10 @@
--- `driver::tbexlum_read_header` meets its contract: it tells the header's fields, the flag as a number.
+-- `driver::tbexlum_read_header` meets its contract: it tells the header's fields, and a refusal by its number.
+use mathlib.Core.Path.{◌∙◌}
+use Rattle.hall.proofs.Stated.{refusal_told, refusal_unwritten}
 use Rattle.driver.proofs.tbexlum_read_header.Goals as goal
 
-pub returns : goal.returns
-returns c =
-    record { number = rw (← c.read_frame-a.ensures, ← c.flag-has_proxy.ensures) c.tell.ensures.number; room = rw (← c.read_frame-a.ensures, ← c.flag-has_proxy.ensures) c.tell.ensures.room }
+pub returns-in-Err-clause-number : goal.returns-in-Err-clause-number
+returns-in-Err-clause-number c = rw (← c.in-Err.ensures) (c.number.ensures ∙ refusal_told _ _ _)
+
+pub returns-in-Err-clause-room : goal.returns-in-Err-clause-room
+returns-in-Err-clause-room c = rw (← c.in-Err.ensures) (refusal_unwritten _ _ _)

@@ -1,30 +1,19 @@
--- `driver::tbexlum_route` meets its contract: it tells the route's uids, the first links + 1 of the answer's places.
-use mathlib.Core.Path.{◌≡◌, ap, sym}
+-- `driver::tbexlum_route` meets its contract: it tells the route's uids, the first links + 1 of the answer's places; a refusal by its number.
+use mathlib.Core.Path.{◌∙◌, ap}
 use Prim.Native.Nat.{◌<◌}
 use native.Mathlib.Omega.{arith}
-use borrow.Author.Rules.{rules}
-use lib.ListN.{length}
-use lib.Seq.{length-take-le}
-use Rattle.route.specs.declared.Route.{Route}
-use Rattle.route.specs.Answers.{longest}
+use Rattle.route.specs.Answers.{longest, RouteAnswer}
+use Rattle.hall.proofs.Stated.{refusal_told, refusal_unwritten}
 use Rattle.driver.proofs.Routes.{route_short}
-use Rattle.driver.proofs.tbexlum_route.Goals.{After-route_between-a}
 use Rattle.driver.proofs.tbexlum_route.Goals as goal
 
-short : (c : After-route_between-a) → c.route_between-a.result.links < longest
-short c = let e = ap (λ (a : Route). a.links) c.route_between-a.ensures in rw e (route_short _ _ _)
+pub shared_ref_as_front-tell : goal.shared_ref_as_front-tell
+shared_ref_as_front-tell c =
+    let short : c.in-Ok.route.links < longest = rw (ap (λ (a : RouteAnswer). a.links) c.in-Ok.ensures) (route_short _ _ _) in
+    omega (arith, short)
 
-long : (c : After-route_between-a) → length c.route_between-a.result.uids ≡ longest
-long c = search rules
+pub returns-in-Err-clause-number : goal.returns-in-Err-clause-number
+returns-in-Err-clause-number c = rw (← c.in-Err.ensures) (c.number.ensures ∙ refusal_told _ _ _)
 
-pub overflow_add-count : goal.overflow_add-count
-overflow_add-count c = omega (arith, short (goal.at.overflow_add-count c).After-route_between-a)
-
-pub slice_bounds-uids-end : goal.slice_bounds-uids-end
-slice_bounds-uids-end c = omega (arith, short (goal.at.slice_bounds-uids-end c).After-route_between-a, long (goal.at.slice_bounds-uids-end c).After-route_between-a)
-
-pub slice_bounds-tell-end : goal.slice_bounds-tell-end
-slice_bounds-tell-end c = sym (length-take-le _ _ (omega (arith, short (goal.at.slice_bounds-tell-end c).After-route_between-a, long (goal.at.slice_bounds-tell-end c).After-route_between-a)))
-
-pub returns : goal.returns
-returns c = record { number = rw (← c.route_between-a.ensures) c.tell.ensures.number; room = rw (← c.route_between-a.ensures) c.tell.ensures.room }
+pub returns-in-Err-clause-room : goal.returns-in-Err-clause-room
+returns-in-Err-clause-room c = rw (← c.in-Err.ensures) (refusal_unwritten _ _ _)
