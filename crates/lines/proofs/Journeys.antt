@@ -1,9 +1,13 @@
 -- Laws of a packet's line: what it is refused for, and what it then answers.
-use mathlib.Core.Path.{◌≡◌, refl, ap}
+use mathlib.Core.Path.{◌≡◌, refl, sym, ◌∙◌, ap}
 use mathlib.Core.List.{List}
-use Prim.Native.Nat.{ℕ, ◌≤◌, ◌<◌}
-use borrow.Author.Tests.{eq-eqb, ne_eqb, le-ltb, lt-ltb}
+use Prim.Native.Nat.{ℕ, ◌+◌, ◌≤◌, ◌<◌}
+use native.Mathlib.Omega.{arith}
+use lib.Dec.{eqb, leb}
+use lib.ListN.{length}
+use borrow.Author.Tests.{eq-eqb, ne_eqb, eqb-false, le-ltb, lt-ltb}
 use Rattle.std.specs.Prelude.{Result, Ok, Err, MatchResult, IsErrAnd}
+use Rattle.combine.proofs.Tests.{cases}
 use Rattle.hall.specs.declared.refusals.Refusal.{Refusal}
 use Rattle.hall.specs.Refusals.{number_of, bad_range}
 use Rattle.forward.specs.Answers.{JourneyAnswer}
@@ -11,7 +15,8 @@ use Rattle.sheet.specs.declared.Sheet.{Sheet}
 use Rattle.sheetparts.specs.declared.SheetPacket.{SheetPacket}
 use Rattle.sheetparts.specs.Parts.{packet_fields}
 use Rattle.report.specs.Texts.{packet_line}
-use Rattle.words.specs.Rooms.{room_of}
+use Rattle.report.proofs.Texts.{line_parts}
+use Rattle.words.specs.Rooms.{roomy, room_of}
 use Rattle.report.specs.Rooms.{WrittenAnswer, no_line, written_of, written_stated}
 use Rattle.lines.specs.Traces.{journey_at, report_of, journey_text, journey_refusal, unless_written, unless_room, written_by_number}
 
@@ -47,3 +52,25 @@ pub line_numbered : (x : Result ℕ Refusal) (y : Result ℕ ℕ) → MatchResul
 line_numbered (Ok end) y e = ap written_by_number e
 line_numbered (Err r) (Ok end) e = absurd e
 line_numbered (Err r) (Err number) e = ap no_line e
+
+-- a line that is refused is so by a number other than 0, as no text of a line is empty
+module _ (room : List ℕ) (at : ℕ) (text : List ℕ) (number : ℕ) where
+  some_written : 0 < length text → no_line number ≡ written_of room at text → number ≡ 0 → ⊥
+  unfolding roomy
+  some_written h e z =
+      cases (leb (at + length text) (length room))
+      (λ q. absurd (omega (arith, h, ap (λ (x : WrittenAnswer). x.end) (rw q at e))))
+      (λ q. absurd (omega (arith, z, ap (λ (x : WrittenAnswer). x.refusal) (rw q at e))))
+
+  numbered : 0 < length text → (m : ℕ) → no_line number ≡ unless_written m room at text → number ≡ 0 → ⊥
+  numbered h m e z =
+      cases (eqb m 0)
+      (λ q. some_written h (rw q at e) z)
+      (λ q. eqb-false m 0 q (sym (ap (λ (x : WrittenAnswer). x.refusal) (rw q at e)) ∙ z))
+
+pub refused_by_some : (s : List ℕ) (read : Sheet) (i : ℕ) (room : List ℕ) (at number : ℕ)
+    → no_line number ≡ unless_written (journey_refusal s read i) room at (journey_text s read i) → number ≡ 0 → ⊥
+unfolding journey_text
+refused_by_some s read i room at number e z =
+    let p = line_parts (report_of (packet_fields s i) (journey_at s read i)) (journey_at s read i).uids in
+    numbered room at _ number (omega (arith, p)) _ e z
