@@ -6,24 +6,27 @@ ghost use Rattle.std.specs.Prelude.{◌≡◌};
 ghost use Rattle.sheet.specs.Answers.{sheet_of};
 ghost use Rattle.report.specs.Texts.{hall_line, refused_line, end_line, packet_line};
 ghost use Rattle.words.specs.Rooms.{room_of};
-ghost use Rattle.report.specs.Rooms.{written_of};
+ghost use Rattle.report.specs.Rooms.{written_of, written_stated};
 ghost use Rattle.lines.specs.Traces.{opening_text, journey_text, journey_refusal, unless_written, unless_room, piece_of, room_piece};
 ghost use Rattle.hall.specs.Halls.{hall_of};
 ghost use Rattle.calls_lines.specs.Outcomes.{report_of, end_of, next_told, end_told};
 
 use hall::Hall;
-use report::{PacketReport, Written};
+use hall::refusals::Refusal;
+use report::PacketReport;
 
-// A line's refusal, which is returned; the place behind the line is told where there is none.
-fn tell_end(line: Written, end: &mut usize) -> u32
-    ensures number { result ≡ line.refusal }
-    ensures end { end.new ≡ end_of line end.old }
+// A line's refusal, whose number is returned; the place behind the line is told where there is none, and 0 returned.
+fn tell_end(line: Result<usize, Refusal>, end: &mut usize) -> u32
+    ensures number { result ≡ (written_stated line).refusal }
+    ensures end { end.new ≡ end_of (written_stated line) end.old }
 {
-    if line.refusal != 0 {
-        return line.refusal;
+    match line {
+        Ok(place) => {
+            *end = place;
+            0
+        }
+        Err(refusal) => refusal.number(),
     }
-    *end = line.end;
-    0
 }
 
 pub fn calls_opening_line(sheet: &[u8], at: usize, room: &mut [u8], end: &mut usize) -> u32
@@ -41,7 +44,13 @@ pub fn calls_journey_line(sheet: &[u8], i: u32, at: usize, room: &mut [u8], end:
     ensures end { end.new ≡ end_of (unless_written (journey_refusal sheet.now (sheet_of sheet.now) i) room.old at (journey_text sheet.now (sheet_of sheet.now) i)) end.old }
 {
     let read = sheet::read_sheet(sheet);
-    tell_end(lines::journey_line(room, at, sheet, read, i), end)
+    match lines::journey_line(room, at, sheet, read, i) {
+        Ok(behind) => {
+            *end = behind;
+            0
+        }
+        Err(number) => number,
+    }
 }
 
 pub fn calls_end_line(packets: u32, at: usize, room: &mut [u8], end: &mut usize) -> u32
@@ -119,10 +128,10 @@ pub fn calls_trace_piece(
     ensures next { next.new ≡ next_told (piece_of sheet.now from room.old) next.old }
     ensures end { end.new ≡ end_told (piece_of sheet.now from room.old) end.old }
 {
-    let piece = lines::trace_piece(room, sheet, from);
-    if piece.refusal != 0 {
-        return piece.refusal;
-    }
+    let piece = match lines::trace_piece(room, sheet, from) {
+        Ok(piece) => piece,
+        Err(refusal) => return refusal.number(),
+    };
     *next = piece.next;
     *end = piece.end;
     0

@@ -1,7 +1,0 @@
--- `calls_lines::calls_hall_line` meets its contract: it writes what the call writes, and tells its end.
-use Rattle.calls_lines.proofs.calls_hall_line.Goals as goal
-
-pub returns : goal.returns
-returns c =
-    let line = c.hall_line in
-    record { number = rw (← line.ensures.answer) c.tell_end.ensures.number; room = line.ensures.room; end = rw (← line.ensures.answer) c.tell_end.ensures.end }

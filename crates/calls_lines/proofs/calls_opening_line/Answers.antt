@@ -1,7 +1,0 @@
--- `calls_lines::calls_opening_line` meets its contract: it writes what the call writes, and tells its end.
-use Rattle.calls_lines.proofs.calls_opening_line.Goals as goal
-
-pub returns : goal.returns
-returns c =
-    let line = c.opening_line in
-    record { number = rw (← c.read_sheet-read.ensures, ← line.ensures.answer) c.tell_end.ensures.number; room = rw (← c.read_sheet-read.ensures) line.ensures.room; end = rw (← c.read_sheet-read.ensures, ← line.ensures.answer) c.tell_end.ensures.end }
