@@ -74,3 +74,13 @@ unfolding journey_text
 refused_by_some s read i room at number e z =
     let p = line_parts (report_of (packet_fields s i) (journey_at s read i)) (journey_at s read i).uids in
     numbered room at _ number (omega (arith, p)) _ e z
+
+-- and what is stated of the answer is so of one answer alone
+module _ (s : List ℕ) (read : Sheet) (i : ℕ) (room : List ℕ) (at : ℕ) where
+  pub answered_once : (x y : Result ℕ ℕ)
+      → written_by_number x ≡ unless_written (journey_refusal s read i) room at (journey_text s read i)
+      → written_by_number y ≡ unless_written (journey_refusal s read i) room at (journey_text s read i) → x ≡ y
+  answered_once (Ok a) (Ok b) p q = ap Ok (ap (λ (w : WrittenAnswer). w.end) (p ∙ sym q))
+  answered_once (Ok a) (Err n) p q = absurd (refused_by_some s read i room at n q (ap (λ (w : WrittenAnswer). w.refusal) (q ∙ sym p)))
+  answered_once (Err m) (Ok b) p q = absurd (refused_by_some s read i room at m p (ap (λ (w : WrittenAnswer). w.refusal) (p ∙ sym q)))
+  answered_once (Err m) (Err n) p q = ap Err (ap (λ (w : WrittenAnswer). w.refusal) (p ∙ sym q))
