@@ -7,9 +7,9 @@ use Prim.Native.Nat.{ℕ, ◌≤◌, ◌<◌}
 use native.Mathlib.Omega.{arith}
 use lib.Dec.{eqb, leb, ltb}
 use lib.ListN.{length}
-use borrow.Author.Tests.{lt-leb, lt-ltb, le-ltb, eqb-true}
+use borrow.Author.Tests.{eq-eqb, lt-leb, lt-ltb, le-ltb, eqb-true}
 use Rattle.combine.specs.Tests.{pick}
-use Rattle.combine.proofs.Tests.{cases}
+use Rattle.combine.proofs.Tests.{cases, never}
 use Rattle.hall.specs.declared.Hall.{Hall}
 use Rattle.hall.specs.Refusals.{refusal, short_room}
 use Rattle.hall.specs.Halls.{valid, servers}
@@ -61,6 +61,9 @@ module _ (h : Hall) (table : List ℕ) (source scope : ℕ) where
       let z : n ≡ short_room = without_room [] ∙ ap (λ (t : Bool). pick t short_room n) e in
       absurd (omega (arith, z, eqb-true n 0 e)))
       (λ e. e)
+
+  pub always_refused : 0 ≡ (broadcast_of h table source scope []).refusal → ⊥
+  always_refused e = never (eq-eqb (broadcast_refusal h table source scope []) 0 (sym (e ∙ refusal_told []))) never_taken
 
   pub nothing_written : room_of h table source scope [] ≡ []
   nothing_written = rw never_taken

@@ -3,26 +3,24 @@
 use Rattle.std.specs.Prelude.{List, [], ◌∷◌, ℕ, eqb}
 use Rattle.combine.specs.Tests.{pick}
 use Rattle.hall.specs.declared.Hall.{Hall}
-use Rattle.local.specs.declared.Distances.{Distances}
-use Rattle.local.specs.declared.NextHop.{NextHop}
+use Rattle.local.specs.Answers.{DistancesAnswer, NextHopAnswer}
 use Rattle.forward.specs.Answers.{JourneyAnswer}
-use Rattle.broadcast.specs.declared.Broadcast.{Broadcast}
-use Rattle.broadcast.specs.Broadcasts.{broadcast_of, room_of}
+use Rattle.broadcast.specs.Broadcasts.{BroadcastAnswer, broadcast_of, room_of}
 use Rattle.frame.specs.Reading.{read_frame, payload_of}
 use Rattle.hall.specs.Rooms.{Outcome, told}
 
 -- the 72 distances, and what they are kept with
-abbrev pub of_distances : Distances → Outcome
+abbrev pub of_distances : DistancesAnswer → Outcome
 of_distances a = (a.refusal, a.distance)
 
-abbrev pub of_origin : Distances → Outcome
+abbrev pub of_origin : DistancesAnswer → Outcome
 of_origin a = (a.refusal, a.origin ∷ a.count ∷ [])
 
-abbrev pub of_next_hop : NextHop → Outcome
+abbrev pub of_next_hop : NextHopAnswer → Outcome
 of_next_hop a = (a.refusal, a.found ∷ a.uid ∷ [])
 
 -- the servers reached and the last round
-abbrev pub of_broadcast : Broadcast → Outcome
+abbrev pub of_broadcast : BroadcastAnswer → Outcome
 of_broadcast a = (a.refusal, a.reached ∷ a.last ∷ [])
 
 -- the room for the rounds at exit: they are written where the counts are told, so where either room is short both are as lent

@@ -14,7 +14,7 @@ ghost use Rattle.calls_packets.specs.Outcomes.{of_distances, of_origin, of_next_
 
 use forward::Packet;
 use hall::Hall;
-use rooms::{tell, tell_bytes};
+use rooms::tell;
 
 pub fn calls_distances(
     n: u32,
@@ -28,9 +28,10 @@ pub fn calls_distances(
     ensures number { result ≡ told (of_distances (distances_of (hall_of n k b count) uid table.now)) room.old }
     ensures room { room.new ≡ written (of_distances (distances_of (hall_of n k b count) uid table.now)) room.old }
 {
-    let a = local::distances_of(Hall { n, k, b, count }, uid, table);
-    let bytes = a.distance;
-    tell_bytes(a.refusal, &bytes, room)
+    match local::distances_of(Hall { n, k, b, count }, uid, table) {
+        Ok(distances) => tell(&distances.distance, room),
+        Err(refusal) => refusal.number(),
+    }
 }
 
 pub fn calls_distances_origin(
@@ -45,9 +46,10 @@ pub fn calls_distances_origin(
     ensures number { result ≡ told (of_origin (distances_of (hall_of n k b count) uid table.now)) room.old }
     ensures room { room.new ≡ written (of_origin (distances_of (hall_of n k b count) uid table.now)) room.old }
 {
-    let a = local::distances_of(Hall { n, k, b, count }, uid, table);
-    let words = [a.origin, a.count];
-    tell(a.refusal, &words, room)
+    match local::distances_of(Hall { n, k, b, count }, uid, table) {
+        Ok(distances) => tell(&[distances.origin, distances.count], room),
+        Err(refusal) => refusal.number(),
+    }
 }
 
 pub fn calls_next_hop(
@@ -63,18 +65,21 @@ pub fn calls_next_hop(
     ensures number { result ≡ told (of_next_hop (next_hop_of (hall_of n k b count) uid target table.now)) room.old }
     ensures room { room.new ≡ written (of_next_hop (next_hop_of (hall_of n k b count) uid target table.now)) room.old }
 {
-    let a = local::next_hop(Hall { n, k, b, count }, uid, target, table);
-    let words = [a.found, a.uid];
-    tell(a.refusal, &words, room)
+    match local::next_hop(Hall { n, k, b, count }, uid, target, table) {
+        Ok(None) => tell(&[0, 0], room),
+        Ok(Some(next)) => tell(&[1, next], room),
+        Err(refusal) => refusal.number(),
+    }
 }
 
 pub fn calls_payload(frame: &[u8], room: &mut [u8]) -> u32
     ensures number { result ≡ told (of_payload frame.now) room.old }
     ensures room { room.new ≡ written (of_payload frame.now) room.old }
 {
-    let number = frame::read_frame(frame).refusal;
-    let part = frame::payload_of(frame);
-    tell_bytes(number, part, room)
+    match frame::read_frame(frame) {
+        Ok(_) => tell(frame::payload_of(frame), room),
+        Err(fault) => fault.refusal.number(),
+    }
 }
 
 pub fn calls_next_identification(id: u32) -> u32
@@ -83,7 +88,7 @@ pub fn calls_next_identification(id: u32) -> u32
     frame::next_identification(id)
 }
 
-// Where the room for the counts is short, the broadcast is asked without room, which tells its refusal and writes nothing.
+// Where the room for the counts is short, the broadcast is asked without room: that is always refused, and writes nothing.
 pub fn calls_broadcast(
     n: u32,
     k: u32,
@@ -101,11 +106,16 @@ pub fn calls_broadcast(
 {
     let h = Hall { n, k, b, count };
     if room.len() < 2 {
-        return broadcast::broadcast_rounds(h, table, source, scope, &mut rounds[0..0]).refusal;
+        let Err(refusal) = broadcast::broadcast_rounds(h, table, source, scope, &mut rounds[..0])
+        else {
+            unreachable!()
+        };
+        return refusal.number();
     }
-    let a = broadcast::broadcast_rounds(h, table, source, scope, rounds);
-    let words = [a.reached, a.last];
-    tell(a.refusal, &words, room)
+    match broadcast::broadcast_rounds(h, table, source, scope, rounds) {
+        Ok(broadcast) => tell(&[broadcast.reached, broadcast.last], room),
+        Err(refusal) => refusal.number(),
+    }
 }
 
 pub fn calls_journey(
@@ -132,9 +142,10 @@ pub fn calls_journey(
         retry,
         ttl,
     };
-    let a = forward::journey_of(Hall { n, k, b, count }, source, packet, table);
-    let words = a.uids;
-    tell(a.refusal, &words, room)
+    match forward::journey_of(Hall { n, k, b, count }, source, packet, table) {
+        Ok(journey) => tell(&journey.uids, room),
+        Err(refusal) => refusal.number(),
+    }
 }
 
 pub fn calls_journey_counts(
@@ -161,7 +172,11 @@ pub fn calls_journey_counts(
         retry,
         ttl,
     };
-    let a = forward::journey_of(Hall { n, k, b, count }, source, packet, table);
-    let words = [a.ending, a.links, a.reroutes];
-    tell(a.refusal, &words, room)
+    match forward::journey_of(Hall { n, k, b, count }, source, packet, table) {
+        Ok(journey) => tell(
+            &[journey.ending.number(), journey.links, journey.reroutes],
+            room,
+        ),
+        Err(refusal) => refusal.number(),
+    }
 }

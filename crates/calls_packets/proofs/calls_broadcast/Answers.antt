@@ -3,31 +3,44 @@
 use mathlib.Core.Path.{◌∙◌, ap}
 use mathlib.Core.List.{List, ◌++◌}
 use Prim.Native.Nat.{ℕ}
-use Rattle.hall.specs.declared.Hall.{Hall}
 use Rattle.hall.specs.Halls.{hall_of}
-use Rattle.broadcast.specs.declared.Broadcast.{Broadcast}
-use Rattle.calls_packets.proofs.TwoRooms.{nothing_written, short_told, short_rounds, short_counts, long_rounds}
+use Rattle.hall.proofs.Stated.{refusal_told, refusal_unwritten}
+use Rattle.broadcast.specs.Broadcasts.{BroadcastAnswer}
+use Rattle.calls_packets.proofs.TwoRooms.{always_refused, nothing_written, short_told, short_rounds, short_counts, long_rounds}
 use Rattle.calls_packets.proofs.calls_broadcast.Goals as goal
 
-pub returns-then-room-lt2 : goal.returns-then-room-lt2
-returns-then-room-lt2 c =
-    let a = c.args in
-    let h : Hall = hall_of a.n a.k a.b a.count in
-    let r = c.broadcast_rounds in
-    let short = c.if-room-lt2.true in record {
-      number = ap (λ (answer : Broadcast). answer.refusal) r.ensures.answer ∙ short_told h a.table.now a.source a.scope a.rounds.now a.room.now short;
-      rounds =
-          ap (λ (part : List ℕ). part ++ a.rounds.now) (r.ensures.room ∙ nothing_written h a.table.now a.source a.scope)
-          ∙ short_rounds h a.table.now a.source a.scope a.rounds.now a.room.now short;
-      room = short_counts h a.table.now a.source a.scope a.rounds.now a.room.now short;
-    }
+pub unreachable-requires : goal.unreachable-requires
+unreachable-requires c = always_refused _ _ _ _ (ap (λ (answer : BroadcastAnswer). answer.refusal) c.in_default.ensures.answer)
 
-pub returns : goal.returns
-returns c =
+pub returns-then-room-lt2-clause-number : goal.returns-then-room-lt2-clause-number
+returns-then-room-lt2-clause-number c =
     let a = c.args in
-    let r = c.broadcast_rounds-a in
-    let o = c.tell in record {
-      number = rw (← r.ensures.answer) o.ensures.number;
-      rounds = r.ensures.room ∙ long_rounds (hall_of a.n a.k a.b a.count) a.table.now a.source a.scope a.rounds.now a.room.now c.if-room-lt2.false;
-      room = rw (← r.ensures.answer) o.ensures.room;
-    }
+    c.number.ensures ∙ ap (λ (answer : BroadcastAnswer). answer.refusal) c.in-Err.ensures.answer
+    ∙ short_told (hall_of a.n a.k a.b a.count) a.table.now a.source a.scope a.rounds.now a.room.now c.if-room-lt2.true
+
+pub returns-then-room-lt2-clause-rounds : goal.returns-then-room-lt2-clause-rounds
+returns-then-room-lt2-clause-rounds c =
+    let a = c.args in
+    ap (λ (part : List ℕ). part ++ a.rounds.now) (c.broadcast_rounds.ensures.room ∙ nothing_written _ _ _ _)
+    ∙ short_rounds (hall_of a.n a.k a.b a.count) a.table.now a.source a.scope a.rounds.now a.room.now c.if-room-lt2.true
+
+pub returns-then-room-lt2-clause-room : goal.returns-then-room-lt2-clause-room
+returns-then-room-lt2-clause-room c =
+    let a = c.args in
+    short_counts (hall_of a.n a.k a.b a.count) a.table.now a.source a.scope a.rounds.now a.room.now c.if-room-lt2.true
+
+pub returns-in-Ok-clause-rounds : goal.returns-in-Ok-clause-rounds
+returns-in-Ok-clause-rounds c =
+    let a = c.args in
+    c.broadcast_rounds-2.ensures.room
+    ∙ long_rounds (hall_of a.n a.k a.b a.count) a.table.now a.source a.scope a.rounds.now a.room.now c.if-room-lt2.false
+
+pub returns-in-Ok-clause-room : goal.returns-in-Ok-clause-room
+returns-in-Ok-clause-room c = rw (← c.in-Ok.ensures.answer) c.tell.ensures.room
+
+pub returns-in-Err-broadcast_rounds-clause-number : goal.returns-in-Err-broadcast_rounds-clause-number
+returns-in-Err-broadcast_rounds-clause-number c =
+    rw (← c.in-Err-broadcast_rounds.ensures.answer) (c.number-in-Err-broadcast_rounds.ensures ∙ refusal_told _ _ _)
+
+pub returns-in-Err-broadcast_rounds-clause-room : goal.returns-in-Err-broadcast_rounds-clause-room
+returns-in-Err-broadcast_rounds-clause-room c = rw (← c.in-Err-broadcast_rounds.ensures.answer) (refusal_unwritten _ _ _)

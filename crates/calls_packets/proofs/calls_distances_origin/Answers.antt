@@ -1,5 +1,10 @@
--- `calls_packets::calls_distances_origin` meets its contract: it tells what the call answers.
+-- `calls_packets::calls_distances_origin` meets its contract: it tells the origin and the count, and a refusal by its number.
+use mathlib.Core.Path.{◌∙◌}
+use Rattle.hall.proofs.Stated.{refusal_told, refusal_unwritten}
 use Rattle.calls_packets.proofs.calls_distances_origin.Goals as goal
 
-pub returns : goal.returns
-returns c = record { number = rw (← c.distances_of-a.ensures) c.tell.ensures.number; room = rw (← c.distances_of-a.ensures) c.tell.ensures.room }
+pub returns-in-Err-clause-number : goal.returns-in-Err-clause-number
+returns-in-Err-clause-number c = rw (← c.in-Err.ensures) (c.number.ensures ∙ refusal_told _ _ _)
+
+pub returns-in-Err-clause-room : goal.returns-in-Err-clause-room
+returns-in-Err-clause-room c = rw (← c.in-Err.ensures) (refusal_unwritten _ _ _)

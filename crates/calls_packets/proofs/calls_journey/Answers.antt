@@ -1,5 +1,13 @@
--- `calls_packets::calls_journey` meets its contract: it tells what the call answers.
+-- `calls_packets::calls_journey` meets its contract: it tells the uids passed, and a refusal by its number.
+use mathlib.Core.Path.{◌∙◌}
+use Rattle.hall.proofs.Stated.{refusal_told, refusal_unwritten}
 use Rattle.calls_packets.proofs.calls_journey.Goals as goal
 
-pub returns : goal.returns
-returns c = record { number = rw (← c.journey_of-a.ensures) c.tell.ensures.number; room = rw (← c.journey_of-a.ensures) c.tell.ensures.room }
+pub returns-in-Ok-clause-number : goal.returns-in-Ok-clause-number
+returns-in-Ok-clause-number c = rw (← c.in-Ok.ensures) c.tell.ensures.number
+
+pub returns-in-Err-clause-number : goal.returns-in-Err-clause-number
+returns-in-Err-clause-number c = rw (← c.in-Err.ensures) (c.number.ensures ∙ refusal_told _ _ _)
+
+pub returns-in-Err-clause-room : goal.returns-in-Err-clause-room
+returns-in-Err-clause-room c = rw (← c.in-Err.ensures) (refusal_unwritten _ _ _)

@@ -1,13 +1,10 @@
--- `calls_packets::calls_payload` meets its contract: it tells the frame's refusal, and the payload.
-use mathlib.Core.Path.{ap}
-use Rattle.frame.specs.declared.Header.{Header}
+-- `calls_packets::calls_payload` meets its contract: it tells the payload, and a refusal by its number.
+use mathlib.Core.Path.{◌∙◌}
+use Rattle.hall.proofs.Stated.{refusal_told, refusal_unwritten}
 use Rattle.calls_packets.proofs.calls_payload.Goals as goal
 
-pub returns : goal.returns
-returns c =
-    let read = c.read_frame-number in
-    let part = c.payload_of-part in
-    let o = c.tell_bytes.ensures in record {
-      number = rw (← ap (λ (header : Header). header.refusal) read.ensures, ← part.ensures) o.number;
-      room = rw (← ap (λ (header : Header). header.refusal) read.ensures, ← part.ensures) o.room;
-    }
+pub returns-in-Err-clause-number : goal.returns-in-Err-clause-number
+returns-in-Err-clause-number c = rw (← c.in-Err.ensures) (c.number.ensures ∙ refusal_told _ _ _)
+
+pub returns-in-Err-clause-room : goal.returns-in-Err-clause-room
+returns-in-Err-clause-room c = rw (← c.in-Err.ensures) (refusal_unwritten _ _ _)
