@@ -8,15 +8,18 @@ ghost use Rattle.sheet.specs.Answers.{sheet_of};
 ghost use Rattle.sheetparts.specs.Parts.{codes_part, packet_fields, packet_at};
 ghost use Rattle.calls_sheets.specs.Outcomes.{of_sheet, of_codes, of_fields, of_packet};
 
-use rooms::{tell, tell_bytes};
+use rooms::tell;
 
 pub fn calls_sheet(sheet: &[u8], room: &mut [u32]) -> u32
     ensures number { result ≡ told (of_sheet (sheet_of sheet.now)) room.old }
     ensures room { room.new ≡ written (of_sheet (sheet_of sheet.now)) room.old }
 {
-    let a = sheet::read_sheet(sheet);
-    let words = [a.hall.n, a.hall.k, a.hall.b, a.hall.count, a.packets];
-    tell(a.refusal, &words, room)
+    let read = sheet::read_sheet(sheet);
+    if read.refusal != 0 {
+        return read.refusal;
+    }
+    let h = read.hall;
+    tell(&[h.n, h.k, h.b, h.count, read.packets], room)
 }
 
 pub fn calls_sheet_place(sheet: &[u8]) -> u32
@@ -30,25 +33,31 @@ pub fn calls_sheet_codes(sheet: &[u8], room: &mut [u8]) -> u32
     ensures room { room.new ≡ written (of_codes sheet.now) room.old }
 {
     let number = sheet::read_sheet(sheet).refusal;
-    let codes = sheetparts::codes_of(sheet);
-    tell_bytes(number, codes, room)
+    if number != 0 {
+        return number;
+    }
+    tell(sheetparts::codes_of(sheet), room)
 }
 
 pub fn calls_codes_part(sheet: &[u8], room: &mut [u8]) -> u32
     ensures number { result ≡ told (0, codes_part sheet.now) room.old }
     ensures room { room.new ≡ written (0, codes_part sheet.now) room.old }
 {
-    let part = sheetparts::codes_part(sheet);
-    tell_bytes(0, part, room)
+    tell(sheetparts::codes_part(sheet), room)
 }
 
 pub fn calls_sheet_packet(sheet: &[u8], i: u32, room: &mut [u32]) -> u32
     ensures number { result ≡ told (of_packet (packet_at sheet.now i)) room.old }
     ensures room { room.new ≡ written (of_packet (packet_at sheet.now i)) room.old }
 {
-    let a = sheetparts::packet_at(sheet, i);
-    let words = [a.source, a.dst, a.retry as u32, a.ttl as u32];
-    tell(a.refusal, &words, room)
+    let p = sheetparts::packet_at(sheet, i);
+    if p.refusal != 0 {
+        return p.refusal;
+    }
+    tell(
+        &[p.source, p.dst, u32::from(p.retry), u32::from(p.ttl)],
+        room,
+    )
 }
 
 pub fn calls_sheet_packet_place(sheet: &[u8], i: u32) -> u32
@@ -61,7 +70,18 @@ pub fn calls_packet_fields(sheet: &[u8], i: u32, room: &mut [u32]) -> u32
     ensures number { result ≡ told (of_fields (packet_fields sheet.now i)) room.old }
     ensures room { room.new ≡ written (of_fields (packet_fields sheet.now i)) room.old }
 {
-    let a = sheetparts::packet_fields(sheet, i);
-    let words = [a.place, a.source, a.dst, a.retry as u32, a.ttl as u32];
-    tell(a.refusal, &words, room)
+    let p = sheetparts::packet_fields(sheet, i);
+    if p.refusal != 0 {
+        return p.refusal;
+    }
+    tell(
+        &[
+            p.place,
+            p.source,
+            p.dst,
+            u32::from(p.retry),
+            u32::from(p.ttl),
+        ],
+        room,
+    )
 }
