@@ -10,6 +10,7 @@ use native.Mathlib.Omega.{arith}
 use lib.Dec.{eqb, leb}
 use lib.ListN.{length, replicate, length-append}
 use borrow.Author.Tests.{eqb-true, eqb-false, ne_eqb, leb-true, leb-false}
+use Rattle.std.proofs.Common.{Option}
 use Rattle.combine.specs.Tests.{pick}
 use Rattle.combine.proofs.Tests.{cases, never}
 use Rattle.hall.specs.declared.Hall.{Hall}
@@ -36,8 +37,7 @@ use Rattle.ends.specs.Tables.{step_table, cell_part}
 use Rattle.ends.proofs.Tables.{near_part}
 use Rattle.counted.proofs.Counted.{counted_full}
 use Rattle.forward.specs.declared.Packet.{Packet}
-use Rattle.forward.specs.Packets.{StepAnswer}
-use Rattle.forward.specs.Packets.{forwarded, delivered, cleared, tidied, is_arrived, goal, aged}
+use Rattle.forward.specs.Packets.{StepAnswer, forwarded, delivered, cleared, tidied, is_arrived, goal, aged}
 use Rattle.forward.specs.Seen.{usable, seen}
 use Rattle.forward.specs.Steps.{reachable, step_on}
 use Rattle.forward.specs.Journeys.{Trip, step_at, ends_at, trip, sight}
@@ -106,14 +106,14 @@ module _ (h : Hall) (is_valid : valid h ≡ true) where
       in_reach target =
           ap not (ne_eqb _ none (all_up_reached h cell known all (place_of h target) (place_of h x) (place_fits h known target) (place_fits h known x)))
 
-      no_failure : {link : Crossing} → Fails h (seen h lent) x (cleared p) (cleared p) link → ⊥
+      no_failure : {link : Option Crossing} → Fails h (seen h lent) x (cleared p) (cleared p) link → ⊥
       unfolding goal
       no_failure (unusable {n1 = n1} {m = m} e u) =
           let a = link_ahead h is_valid x p.dst here there e in
           never (every m (place_of h n1) (place_fits h known n1) (omega (arith, a.level, a.low)) (omega (arith, a.level, a.high))) u
       no_failure (out_of_reach {target = target} t r w) = never (in_reach target) r
 
-      nears_so : {link : Crossing} {target : ℕ} → Target h (seen h lent) x (cleared p) (cleared p) link target
+      nears_so : {link : Option Crossing} {target : ℕ} → Target h (seen h lent) x (cleared p) (cleared p) link target
           → towards h cell x target ≡ onwards h x p.dst
       unfolding goal
       nears_so (the_goal e) =
@@ -122,7 +122,7 @@ module _ (h : Hall) (is_valid : valid h ≡ true) where
           let a = link_above h is_valid x p.dst here there e in
           hop_onward x n1 ∙ sym (hop_near (onward h) h.n h.b h.k x p.dst n1 n2 a.0 a.1 d)
 
-      passes_onward : {o : Step} → Passes h (seen h lent) x (cleared p) (cleared p) false o → Onward h x p o
+      passes_onward : {o : StepAnswer} → Passes h (seen h lent) x (cleared p) (cleared p) false o → Onward h x p o
       unfolding goal towards
       passes_onward (ends (nears t r)) = record { goes = refl; hops_so = nears_so t; not_rerouted = refl; as_before = refl }
       passes_onward (ends (crosses {n1 = n1} {n2 = n2} e u q)) =
@@ -138,7 +138,7 @@ module _ (h : Hall) (is_valid : valid h ≡ true) where
       unfolding is_arrived
       step_onward ne l = go (step_ways h (seen h lent) x (cleared p))
         where
-          go : {o : Step} → Steps h (seen h lent) x (cleared p) o → Onward h x p o
+          go : {o : StepAnswer} → Steps h (seen h lent) x (cleared p) o → Onward h x p o
           go (delivers e) = absurd (ne e)
           go (dies d z) = absurd (omega arith)
           go (arrives d k a w) = never a refl

@@ -8,10 +8,9 @@ use lib.Seq.{take_at, drop_at}
 use borrow.Author.Tests.{eqb-true}
 use Rattle.combine.proofs.Tests.{cases}
 use Rattle.hall.specs.Refusals.{answered}
-use Rattle.frame.specs.declared.Header.{Header}
 use Rattle.frame.specs.Layout.{value_in, word_at}
 use Rattle.frame.specs.Asks.{frame_refusal}
-use Rattle.frame.specs.Reading.{header_of, refused_at, refused_header, read_frame, payload_of}
+use Rattle.frame.specs.Reading.{HeaderAnswer, header_of, refused_at, refused_header, read_frame, payload_of}
 use Rattle.frame.specs.Before.{refusal_before, read_before, payload_before}
 use Rattle.frame.proofs.Before.{as_before}
 use Rattle.header.specs.declared.Fields.{Fields}
@@ -22,7 +21,7 @@ use Rattle.header.proofs.Encoding.{one_encoding, length_again, written_again}
 use Rattle.promises.specs.Headers.{frame_of, ReadsBack, RoundTrip, WritesBack, WrittenAgain, WrittenAsBefore}
 
 -- an answer that tells no refusal was not refused
-not_refused : (number : ℕ) (good : Header) (refused : ℕ → Header) → (refused number).refusal ≡ number → (answered number good refused).refusal ≡ 0 → number ≡ 0
+not_refused : (number : ℕ) (good : HeaderAnswer) (refused : ℕ → HeaderAnswer) → (refused number).refusal ≡ number → (answered number good refused).refusal ≡ 0 → number ≡ 0
 not_refused number good refused n e = cases (eqb number 0) (λ q. eqb-true number 0 q) (λ q. sym n ∙ (rw q at e))
 
 frame_accepted : (frame : List ℕ) → (read_frame frame).refusal ≡ 0 → frame_refusal frame ≡ 0
@@ -66,7 +65,7 @@ reads_before : (fields : Fields) (room payload padding : List ℕ) → ReadsBack
 reads_before fields room payload padding r =
     let frame : List ℕ = frame_of fields room payload padding in
     let b = as_before frame in
-    let z = frame_accepted frame (ap (λ (h : Header). h.refusal) r.same_fields) in
+    let z = frame_accepted frame (ap (λ (h : HeaderAnswer). h.refusal) r.same_fields) in
     record {
       same_fields = sym (b.same_fields z) ∙ r.same_fields;
       same_payload = sym b.same_payload ∙ r.same_payload;
@@ -75,11 +74,11 @@ reads_before fields room payload padding r =
 
 writes_before : (frame room : List ℕ) → read_frame frame ≡ read_before frame → WritesBack (λ frame. read_frame frame) frame room → WritesBack (λ frame. read_before frame) frame room
 writes_before frame room e w = record {
-  not_refused = ap (λ (h : Header). write_refusal (fields_of h) room) (sym e) ∙ w.not_refused;
+  not_refused = ap (λ (h : HeaderAnswer). write_refusal (fields_of h) room) (sym e) ∙ w.not_refused;
   same_bytes =
-      ap (λ (h : Header). take h.header_length (room_written (fields_of h) room)) (sym e)
+      ap (λ (h : HeaderAnswer). take h.header_length (room_written (fields_of h) room)) (sym e)
       ∙ w.same_bytes
-      ∙ ap (λ (h : Header). take h.header_length frame) e;
+      ∙ ap (λ (h : HeaderAnswer). take h.header_length frame) e;
 }
 
 pub header_as_before : WrittenAsBefore
@@ -89,5 +88,5 @@ header_as_before = record {
       let b = as_before frame in
       let same = b.same_fields (b.accepted (accepted_before frame e)) in
       writes_before frame room same
-      (header_written_again frame room bytes (ap (λ (h : Header). h.refusal) same ∙ e) (rw (ap (λ (h : Header). h.header_length) same) long));
+      (header_written_again frame room bytes (ap (λ (h : HeaderAnswer). h.refusal) same ∙ e) (rw (ap (λ (h : HeaderAnswer). h.header_length) same) long));
 }
