@@ -1,5 +1,5 @@
--- One outcome of each call about the DCell1s of a hall: each contract equates its result, and what is lent to write to at exit, with one
--- definition.
+-- One outcome of each call about the DCell1s of a hall: each contract equates its result, or the number and the values stated for it, and
+-- what is lent to write to at exit, with one definition.
 use mathlib.Core.Path.{◌≡◌}
 use Rattle.hall.proofs.racks_of.Kinds as racks_of_kinds
 use Rattle.hall.proofs.racks_of.Reads as racks_of_reads
@@ -19,12 +19,13 @@ use Rattle.calls_plan.proofs.calls_fitted_servers.Kinds as calls_fitted_servers_
 use Rattle.calls_plan.proofs.calls_fitted_servers.Reads as calls_fitted_servers_reads
 use Rattle.promises.specs.OneOutcome.{Agrees, OneResult}
 use Rattle.promises.proofs.OneOutcome.{one}
+use Rattle.promises.proofs.Stated.{prefix_one}
 
 pub racks_of : OneResult 0 racks_of_kinds.ps racks_of_kinds.r racks_of_reads.Learnt
 racks_of κs a x y e f = one
 
 pub next_prefix : OneResult 0 next_prefix_kinds.ps next_prefix_kinds.r next_prefix_reads.Learnt
-next_prefix κs a x y e f = one
+next_prefix κs a x y e f p q = prefix_one x y (one p q)
 
 pub is_fitted : OneResult 0 is_fitted_kinds.ps is_fitted_kinds.r is_fitted_reads.Learnt
 is_fitted κs a x y e f = one
