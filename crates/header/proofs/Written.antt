@@ -1,4 +1,11 @@
 -- Laws of the words that are written: what stands in each, that the checksum goes by every field but its own, and what is refused.
+use lib.Seq.{length-take-le}
+use Rattle.words.specs.Words.{words_bytes}
+use Rattle.words.specs.Rooms.{room_of}
+use Rattle.words.proofs.Rooms.{room_start}
+use Rattle.words.proofs.Words.{words_length}
+use Rattle.frame.specs.Layout.{bytes_of}
+use Rattle.frame.proofs.Words.{bytes_taken}
 use mathlib.Core.Path.{◌≡◌, refl, ◌∙◌, ap, sym}
 use mathlib.Core.Bool.{Bool, true, false}
 use mathlib.Core.List.{List, [], ◌∷◌, ◌++◌}
@@ -191,6 +198,13 @@ module _ (fields : Fields) where
           n,
           bytes_cong (λ i. get_or (set list 2 (get_or list 2 0 + sum)) i 0) (header_words fields) (count_of fields) (λ i h. word_sealed sum i s h),
         )
+
+-- the words put at the start of a room that has place for them
+pub taken : (words room : List ℕ) (count : ℕ) → count ≤ length words → 4 * count ≤ length room
+    → room_of room 0 (words_bytes (take count words)) ≡ bytes_of (λ i. get_or words i 0) count ++ drop (4 * count) room
+taken words room count h k =
+    let l : length (words_bytes (take count words)) ≡ 4 * count = omega (arith, words_length (take count words), length-take-le count words h) in
+    room_start room (words_bytes (take count words)) (omega arith) ∙ rw (l, bytes_taken words count h)
 
 -- what writing answers, and the room, refusal by refusal
 module _ (fields : Fields) (room : List ℕ) where
