@@ -11,7 +11,7 @@ use Rattle.combine.proofs.Tests.{never}
 use Rattle.hall.specs.declared.Hall.{Hall}
 use Rattle.hall.specs.Halls.{valid, servers, asks_hall}
 use Rattle.hall.specs.Refusals.{refusal, in_order, bad_length, most_retry}
-use Rattle.hall.proofs.Asks.{refusal_in_order, first_refuses, first_passes, unrefused_hold}
+use Rattle.hall.proofs.Asks.{refusal_in_order, first_refuses, first_passes, unrefused_hold, hold_unrefused}
 use Rattle.ports.specs.Codes.{table_length}
 use Rattle.ports.specs.Answers.{asks_table}
 use Rattle.ends.specs.Tables.{step_length}
@@ -84,6 +84,21 @@ unrefused h bytes table me p z =
       };
     }
 
+proxy_asked : (has below : Bool) → (has ≡ true → below ≡ true) → either (not has) below ≡ true
+proxy_asked true below f = f refl
+proxy_asked false below f = refl
+
+-- and where all of that is so, nothing is refused
+pub nothing_refused : (h : Hall) (bytes : ℕ) (table : List ℕ) (me : ℕ) (p : Packet) → Unrefused h bytes table me p
+    → refusal (asks_hall h ∷ (bad_length, eqb (length table) bytes) ∷ asks_packet h me p) ≡ 0
+nothing_refused h bytes table me p u =
+    let here = lt-ltb me (servers h) u.fits in
+    let there = lt-ltb p.dst (servers h) u.packet.dst_fits in
+    let proxy = proxy_asked p.has_proxy (ltb p.proxy (servers h)) (λ e. lt-ltb p.proxy (servers h) (u.packet.proxy_fits e)) in
+    let retry = le-leb p.retry most_retry u.packet.retry_fits in
+    hold_unrefused (asks_hall h ∷ (bad_length, eqb (length table) bytes) ∷ asks_packet h me p) refl
+    (u.sound, (eq-eqb (length table) bytes u.long, (here, (there, (proxy, (retry, tt))))))
+
 -- the refusal of a call in a hall of so many servers, which wants so many bytes of its table
 module _ (h : Hall) (count : ℕ) (e : count ≡ pick (valid h) (servers h) 0) (wanted : ℕ) (table : List ℕ) (me : ℕ) (p : Packet) where
   pub no_hall : count ≡ 0 → 1 ≡ refusal (asks_hall h ∷ (bad_length, eqb (length table) wanted) ∷ asks_packet h me p)
@@ -120,3 +135,9 @@ module _ (h : Hall) (me : ℕ) (p : Packet) (table : List ℕ) (r : ℕ) (e : r 
   journey_sound z =
       let u = unrefused h (table_length h) table me p (sym e ∙ z) in
       record { sound = u.sound; long = u.long; fits = u.fits; packet = u.packet }
+
+-- so a journey of which nothing is refused is answered
+pub journey_there : (h : Hall) (table : List ℕ) (me : ℕ) (p : Packet) → Unrefused h (table_length h) table me p
+    → journey_of h me p table ≡ journey_from (trip h (counted h 0 table) me p)
+journey_there h table me p u =
+    sym (journey_answered h me p table 0 (sym (nothing_refused h (table_length h) table me p u)) refl (journey_from (trip h (counted h 0 table) me p)) refl)
