@@ -1,27 +1,22 @@
 -- An answer can be read off the number and the values stated for it: so where a contract says them, it says the answer.
 use mathlib.Core.Path.{◌≡◌, refl, sym, ◌∙◌, ap}
-use mathlib.Core.List.{List, [], ◌∷◌}
+use mathlib.Core.List.{[], ◌∷◌}
 use Prim.Native.Nat.{ℕ, ◌-◌}
 use lib.Dec.{eqb}
 use lib.ListN.{get_or}
-use Rattle.std.specs.Prelude.{Result, Ok, Err, Option, Some, None, is_some, unwrap_or}
+use Rattle.std.specs.Prelude.{Ok, Err, Option, Some, None, is_some, unwrap_or}
 use Rattle.combine.specs.Tests.{pick}
 use Rattle.hall.specs.declared.refusals.Refusal.{Refusal}
 use Rattle.hall.specs.declared.refusals.Fault.{Fault}
 use Rattle.hall.specs.Refusals.{number_of, stated_at}
+use Rattle.promises.specs.OneOutcome.{TellsApart}
 use Rattle.hall.specs.Answers.{no_sizes, sizes_stated}
 use Rattle.hall.proofs.Stated.{number_not_zero, number_one, stated_one}
-use Rattle.cells.specs.declared.Cell.{Cell}
-use Rattle.cells.specs.declared.Link.{Link}
 use Rattle.cells.specs.Answers as cells
 use Rattle.ports.specs.Answers.{check_stated}
 use Rattle.plan.specs.Answers.{no_prefix, prefix_stated}
-use Rattle.route.specs.declared.Route.{Route}
-use Rattle.route.specs.declared.Crossing.{Crossing}
 use Rattle.route.specs.Answers as route
-use Rattle.local.specs.declared.Distances.{Distances}
 use Rattle.local.specs.Answers.{no_distances, distances_stated, NextHopAnswer, refused_hop, hop_told, next_hop_stated}
-use Rattle.broadcast.specs.declared.Broadcast.{Broadcast}
 use Rattle.broadcast.specs.Broadcasts.{no_broadcast, broadcast_stated}
 use Rattle.forward.specs.declared.Step.{Step}
 use Rattle.forward.specs.declared.Journey.{Journey}
@@ -34,7 +29,6 @@ use Rattle.forward.specs.Answers.{refused_step, step_stated, refused_journey, jo
 use Rattle.frame.specs.declared.Header.{Header}
 use Rattle.frame.specs.Reading.{HeaderAnswer, refused_at, header_read, header_stated}
 use Rattle.report.specs.Rooms.{no_line, written_stated}
-use Rattle.lines.specs.declared.Piece.{Piece}
 use Rattle.lines.specs.Traces.{no_piece, piece_stated}
 
 -- the number, the place and the values stated for an answer are those of one answer, where all can be read off them
@@ -54,49 +48,49 @@ module _ {A T : Type 0} (good : A → T) (refused : ℕ → ℕ → T) (number p
       let p : f.place ≡ g.place = sym (place_back f) ∙ ap place e ∙ place_back g in
       ap (λ (x : Refusal). record { refusal = x; place = f.place }) r ∙ ap (λ (x : ℕ). record { refusal = g.refusal; place = x }) p
 
-  pub stated_at_one : (x y : Result A Fault) → stated_at good refused x ≡ stated_at good refused y → x ≡ y
+  pub stated_at_one : TellsApart (stated_at good refused)
   stated_at_one (Ok a) (Ok b) e = ap Ok (sym (valued a) ∙ ap value e ∙ valued b)
   stated_at_one (Ok a) (Err f) e = absurd (apart a f e)
   stated_at_one (Err f) (Ok b) e = absurd (apart b f (sym e))
   stated_at_one (Err f) (Err g) e = ap Err (fault_one f g e)
 
 -- crate `hall`
-pub sizes_one : (x y : Result (List ℕ) Refusal) → sizes_stated x ≡ sizes_stated y → x ≡ y
+pub sizes_one : TellsApart sizes_stated
 sizes_one = stated_one _ no_sizes (λ a. a.refusal) (λ a. a.t) (λ a. refl) (λ a. refl) (λ n. refl)
 
 -- crate `cells`
-pub uid_one : (x y : Result ℕ Refusal) → cells.uid_stated x ≡ cells.uid_stated y → x ≡ y
+pub uid_one : TellsApart cells.uid_stated
 uid_one = stated_one _ cells.no_uid (λ a. a.refusal) (λ a. a.uid) (λ a. refl) (λ a. refl) (λ n. refl)
 
-pub tuple_one : (x y : Result (List ℕ) Refusal) → cells.tuple_stated x ≡ cells.tuple_stated y → x ≡ y
+pub tuple_one : TellsApart cells.tuple_stated
 tuple_one = stated_one _ cells.no_tuple (λ a. a.refusal) (λ a. a.entries) (λ a. refl) (λ a. refl) (λ n. refl)
 
-pub cell_one : (x y : Result Cell Refusal) → cells.cell_stated x ≡ cells.cell_stated y → x ≡ y
+pub cell_one : TellsApart cells.cell_stated
 cell_one = stated_one _ cells.no_cell (λ a. a.refusal) (λ a. record { first = a.first; count = a.count }) (λ a. refl) (λ a. refl) (λ n. refl)
 
-pub neighbour_one : (x y : Result ℕ Refusal) → cells.neighbour_stated x ≡ cells.neighbour_stated y → x ≡ y
+pub neighbour_one : TellsApart cells.neighbour_stated
 neighbour_one = stated_one _ cells.no_neighbour (λ a. a.refusal) (λ a. a.uid) (λ a. refl) (λ a. refl) (λ n. refl)
 
-pub link_one : (x y : Result Link Refusal) → cells.link_stated x ≡ cells.link_stated y → x ≡ y
+pub link_one : TellsApart cells.link_stated
 link_one = stated_one _ cells.no_link (λ a. a.refusal) (λ a. record { from = a.from; to = a.to }) (λ a. refl) (λ a. refl) (λ n. refl)
 
 -- crate `ports`
-pub check_one : (x y : Result (Unit {0}) Fault) → check_stated x ≡ check_stated y → x ≡ y
+pub check_one : TellsApart check_stated
 check_one = stated_at_one _ _ (λ a. a.refusal) (λ a. a.place) (λ a. tt) (λ a. refl) (λ a. refl) (λ n p. refl) (λ n p. refl)
 
 -- crate `plan`
-pub prefix_one : (x y : Result (List ℕ) Refusal) → prefix_stated x ≡ prefix_stated y → x ≡ y
+pub prefix_one : TellsApart prefix_stated
 prefix_one = stated_one _ no_prefix (λ a. a.refusal) (λ a. a.entries) (λ a. refl) (λ a. refl) (λ n. refl)
 
 -- crate `route`
-pub route_one : (x y : Result Route Refusal) → route.route_stated x ≡ route.route_stated y → x ≡ y
+pub route_one : TellsApart route.route_stated
 route_one = stated_one _ route.no_route (λ a. a.refusal) (λ a. record { links = a.links; uids = a.uids }) (λ a. refl) (λ a. refl) (λ n. refl)
 
-pub first_link_one : (x y : Result (Option Crossing) Refusal) → route.first_link_stated x ≡ route.first_link_stated y → x ≡ y
+pub first_link_one : TellsApart route.first_link_stated
 first_link_one = stated_one _ route.no_link (λ a. a.refusal) (λ a. a.link) (λ a. refl) (λ a. refl) (λ n. refl)
 
 -- crate `local`
-pub distances_one : (x y : Result Distances Refusal) → distances_stated x ≡ distances_stated y → x ≡ y
+pub distances_one : TellsApart distances_stated
 distances_one =
     stated_one _ no_distances
     (λ a. a.refusal) (λ a. record { origin = a.origin; count = a.count; distance = a.distance }) (λ a. refl) (λ a. refl) (λ n. refl)
@@ -114,11 +108,11 @@ hop_accepted : (x : Option ℕ) → (hop_told x).refusal ≡ 0
 hop_accepted (Some uid) = refl
 hop_accepted None = refl
 
-pub next_hop_one : (x y : Result (Option ℕ) Refusal) → next_hop_stated x ≡ next_hop_stated y → x ≡ y
+pub next_hop_one : TellsApart next_hop_stated
 next_hop_one = stated_one _ refused_hop (λ a. a.refusal) hop_in hop_accepted hop_back (λ n. refl)
 
 -- crate `broadcast`
-pub broadcast_one : (x y : Result Broadcast Refusal) → broadcast_stated x ≡ broadcast_stated y → x ≡ y
+pub broadcast_one : TellsApart broadcast_stated
 broadcast_one = stated_one _ no_broadcast (λ a. a.refusal) (λ a. record { reached = a.reached; last = a.last }) (λ a. refl) (λ a. refl) (λ n. refl)
 
 -- crate `forward`: the ending of a number
@@ -146,12 +140,12 @@ onward_back (Ends DropRetry) = refl
 onward_back (Ends DropProxy) = refl
 onward_back (Ends Delivered) = refl
 
-pub step_one : (x y : Result Step Refusal) → step_stated x ≡ step_stated y → x ≡ y
+pub step_one : TellsApart step_stated
 step_one =
     stated_one _ refused_step (λ a. a.refusal) (λ a. record { onward = onward_of a.ending a.next; packet = a.packet; reroutes = a.reroutes })
     (λ a. refl) (λ (a : Step). ap (λ (o : Onward). record { onward = o; packet = a.packet; reroutes = a.reroutes }) (onward_back a.onward)) (λ n. refl)
 
-pub journey_one : (x y : Result Journey Refusal) → journey_stated x ≡ journey_stated y → x ≡ y
+pub journey_one : TellsApart journey_stated
 journey_one =
     stated_one _ refused_journey (λ a. a.refusal) (λ a. record { ending = ending_of a.ending; links = a.links; reroutes = a.reroutes; uids = a.uids })
     (λ a. refl) (λ (a : Journey). ap (λ (e : Ending). record { ending = e; links = a.links; reroutes = a.reroutes; uids = a.uids }) (ending_back a.ending)) (λ n. refl)
@@ -182,13 +176,13 @@ header_back : (h : Header) → header_in (header_read h) ≡ h
 unfolding header_in header_with
 header_back h = ap (λ (p : Option ℕ). header_with p (header_read h)) (proxy_back h.proxy)
 
-pub header_one : (x y : Result Header Fault) → header_stated x ≡ header_stated y → x ≡ y
+pub header_one : TellsApart header_stated
 header_one = stated_at_one _ refused_at (λ a. a.refusal) (λ a. a.place) header_in (λ a. refl) header_back (λ n p. refl) (λ n p. refl)
 
 -- crate `report`
-pub written_one : (x y : Result ℕ Refusal) → written_stated x ≡ written_stated y → x ≡ y
+pub written_one : TellsApart written_stated
 written_one = stated_one _ no_line (λ a. a.refusal) (λ a. a.end) (λ a. refl) (λ a. refl) (λ n. refl)
 
 -- crate `lines`
-pub piece_one : (x y : Result Piece Refusal) → piece_stated x ≡ piece_stated y → x ≡ y
+pub piece_one : TellsApart piece_stated
 piece_one = stated_one _ no_piece (λ a. a.refusal) (λ a. record { next = a.next; end = a.end }) (λ a. refl) (λ a. refl) (λ n. refl)
