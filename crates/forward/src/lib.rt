@@ -58,7 +58,8 @@ pub struct Candidate {
     pub level: u32,
 }
 
-// What a journey answers: its ending, the links crossed, the reroutes, and the uids passed, zeros behind them.
+// What a journey answers: its ending, the links crossed, the reroutes, and the uids passed, zeros behind them as the rules ask; an array, since
+// there is no heap.
 #[derive(Clone, Copy)]
 pub struct Journey {
     pub ending: Ending,

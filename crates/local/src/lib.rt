@@ -23,7 +23,7 @@ use hall::refusals::Refusal;
 // The distance that says that there is none.
 pub const NONE: u8 = 255;
 
-// The distances from one server, kept with it: the place of a server in the cell is its uid less the cell's first.
+// The distances from one server, kept with it in one record, as the rules ask: the place of a server in the cell is its uid less the cell's first.
 #[derive(Clone, Copy)]
 pub struct Distances {
     pub origin: u32,

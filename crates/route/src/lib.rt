@@ -17,7 +17,7 @@ use hall::{Hall, PLACES};
 // The servers of the longest route.
 pub const LONGEST: usize = 16;
 
-// A route: its links, and its uids in order, zeros behind them.
+// A route: its links, and its uids in order, zeros behind them as the rules ask; an array, since there is no heap.
 #[derive(Clone, Copy)]
 pub struct Route {
     pub links: u32,
