@@ -2,11 +2,12 @@
 
 #![tactic(auto)]
 
-ghost use Rattle.std.specs.Prelude.{◌≡◌, ◌+◌, [], ◌∷◌, length, IfOk};
+ghost use Rattle.std.specs.Prelude.{◌≡◌, ◌+◌, [], ◌∷◌, length, Ok, IfOk};
 ghost use Rattle.std.proofs.lemmas.List.Edits.{sets};
 ghost use Rattle.hall.specs.Refusals.{refusal, refusal_in};
 ghost use Rattle.hall.specs.Cells.{port};
 ghost use Rattle.hall.specs.Halls.{asks_hall, asks_uid};
+ghost use Rattle.hall.specs.Answers.{sizes_of, sizes_stated};
 ghost use Rattle.route.specs.Routes.{route};
 ghost use Rattle.route.specs.Answers.{route_between, route_stated, first_above, first_link_of, first_link_stated};
 ghost use Rattle.route.specs.Filling.{in_switch, per_switch, Inside, Room};
@@ -125,24 +126,25 @@ fn first_above(sizes: &[u32; PLACES], b: u32, k: u32, x: u32, y: u32) -> Option<
     found
 }
 
-// The sizes of a hall that has the servers x and y, or why they are refused.
-fn sizes_with(h: Hall, x: u32, y: u32) -> Result<[u32; PLACES], Refusal>
+// Why the servers x and y are refused, of a hall that has these sizes. The sizes are looked at where they lie: handing them on in a `Result` copied them.
+fn refused_servers(h: Hall, sizes: &[u32; PLACES], x: u32, y: u32) -> Result<(), Refusal>
+    requires { sizes_stated (Ok sizes.now) ≡ sizes_of h }
     ensures refused { refusal_in result ≡ refusal (asks_hall h ∷ asks_uid h x ∷ asks_uid h y ∷ []) }
-    ensures given { IfOk result (λ sizes. Inside sizes h.k 0 x y × (per_switch sizes ≡ h.n)) }
+    ensures given { IfOk result (λ _. Inside sizes.now h.k 0 x y × (per_switch sizes.now ≡ h.n)) }
 {
-    let sizes = hall::sizes_of(h)?;
     let servers = sizes[h.k as usize];
     if servers <= x || servers <= y {
         return Err(Refusal::BadUid);
     }
-    Ok(sizes)
+    Ok(())
 }
 
 // The route from x to y.
 pub fn route_between(h: Hall, x: u32, y: u32) -> Result<Route, Refusal>
     ensures { route_stated result ≡ route_between h x y }
 {
-    let sizes = sizes_with(h, x, y)?;
+    let sizes = hall::sizes_of(h)?;
+    refused_servers(h, &sizes, x, y)?;
     let mut uids = [0u32; LONGEST];
     let next = fill(&sizes, h.k as usize, 0, x, y, &mut uids, 0);
     Ok(Route {
@@ -155,6 +157,7 @@ pub fn route_between(h: Hall, x: u32, y: u32) -> Result<Route, Refusal>
 pub fn first_link(h: Hall, x: u32, y: u32) -> Result<Option<Crossing>, Refusal>
     ensures { first_link_stated result ≡ first_link_of h x y }
 {
-    let sizes = sizes_with(h, x, y)?;
+    let sizes = hall::sizes_of(h)?;
+    refused_servers(h, &sizes, x, y)?;
     Ok(first_above(&sizes, h.b, h.k, x, y))
 }
