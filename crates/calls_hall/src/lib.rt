@@ -19,7 +19,7 @@ pub fn calls_sizes(n: u32, k: u32, b: u32, count: u32, room: &mut [u32]) -> u32
     ensures room { room.new ≡ written (of_sizes (sizes_of (hall_of n k b count))) room.old }
 {
     match hall::sizes_of(Hall { n, k, b, count }) {
-        Ok(sizes) => tell(&sizes, room),
+        Ok(sizes) => tell(0, &sizes, room),
         Err(refusal) => refusal.number(),
     }
 }
@@ -45,7 +45,7 @@ pub fn calls_uid(
     ensures room { room.new ≡ written (of_uid (uid_of (hall_of n k b count) (a0 ∷ a1 ∷ a2 ∷ a3 ∷ []))) room.old }
 {
     match cells::uid_of(Hall { n, k, b, count }, [a0, a1, a2, a3]) {
-        Ok(uid) => tell(&[uid], room),
+        Ok(uid) => tell(0, &[uid], room),
         Err(refusal) => refusal.number(),
     }
 }
@@ -55,7 +55,7 @@ pub fn calls_tuple(n: u32, k: u32, b: u32, count: u32, uid: u32, room: &mut [u32
     ensures room { room.new ≡ written (of_tuple (tuple_of (hall_of n k b count) uid)) room.old }
 {
     match cells::tuple_of(Hall { n, k, b, count }, uid) {
-        Ok(entries) => tell(&entries, room),
+        Ok(entries) => tell(0, &entries, room),
         Err(refusal) => refusal.number(),
     }
 }
@@ -65,7 +65,7 @@ pub fn calls_cell(n: u32, k: u32, b: u32, count: u32, uid: u32, level: u32, room
     ensures room { room.new ≡ written (of_cell (cell_around (hall_of n k b count) uid level)) room.old }
 {
     match cells::cell_around(Hall { n, k, b, count }, uid, level) {
-        Ok(cell) => tell(&[cell.first, cell.count], room),
+        Ok(cell) => tell(0, &[cell.first, cell.count], room),
         Err(refusal) => refusal.number(),
     }
 }
@@ -83,7 +83,7 @@ pub fn calls_neighbour(
     ensures room { room.new ≡ written (of_neighbour (neighbour_of (hall_of n k b count) uid level)) room.old }
 {
     match cells::neighbour_of(Hall { n, k, b, count }, uid, level) {
-        Ok(neighbour) => tell(&[neighbour], room),
+        Ok(neighbour) => tell(0, &[neighbour], room),
         Err(refusal) => refusal.number(),
     }
 }
@@ -103,7 +103,7 @@ pub fn calls_link(
     ensures room { room.new ≡ written (of_link (link_between (hall_of n k b count) uid level p q)) room.old }
 {
     match cells::link_between(Hall { n, k, b, count }, uid, level, p, q) {
-        Ok(link) => tell(&[link.from, link.to], room),
+        Ok(link) => tell(0, &[link.from, link.to], room),
         Err(refusal) => refusal.number(),
     }
 }
@@ -130,7 +130,7 @@ pub fn calls_part(
     ensures room { room.new ≡ written (of_part (hall_of n k b count) table.now uid) room.old }
 {
     match ports::part_refusal(Hall { n, k, b, count }, table, uid) {
-        Ok(()) => tell(ports::part_of(Hall { n, k, b, count }, table, uid), room),
+        Ok(()) => tell(0, ports::part_of(Hall { n, k, b, count }, table, uid), room),
         Err(refusal) => refusal.number(),
     }
 }
@@ -140,7 +140,7 @@ pub fn calls_route(n: u32, k: u32, b: u32, count: u32, x: u32, y: u32, room: &mu
     ensures room { room.new ≡ written (of_route (route_between (hall_of n k b count) x y)) room.old }
 {
     match route::route_between(Hall { n, k, b, count }, x, y) {
-        Ok(route) => tell(&route.uids, room),
+        Ok(route) => tell(0, &route.uids, room),
         Err(refusal) => refusal.number(),
     }
 }

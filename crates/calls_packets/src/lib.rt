@@ -29,7 +29,7 @@ pub fn calls_distances(
     ensures room { room.new ≡ written (of_distances (distances_of (hall_of n k b count) uid table.now)) room.old }
 {
     match local::distances_of(Hall { n, k, b, count }, uid, table) {
-        Ok(distances) => tell(&distances.distance, room),
+        Ok(distances) => tell(0, &distances.distance, room),
         Err(refusal) => refusal.number(),
     }
 }
@@ -47,7 +47,7 @@ pub fn calls_distances_origin(
     ensures room { room.new ≡ written (of_origin (distances_of (hall_of n k b count) uid table.now)) room.old }
 {
     match local::distances_of(Hall { n, k, b, count }, uid, table) {
-        Ok(distances) => tell(&[distances.origin, distances.count], room),
+        Ok(distances) => tell(0, &[distances.origin, distances.count], room),
         Err(refusal) => refusal.number(),
     }
 }
@@ -66,8 +66,8 @@ pub fn calls_next_hop(
     ensures room { room.new ≡ written (of_next_hop (next_hop_of (hall_of n k b count) uid target table.now)) room.old }
 {
     match local::next_hop(Hall { n, k, b, count }, uid, target, table) {
-        Ok(None) => tell(&[0, 0], room),
-        Ok(Some(next)) => tell(&[1, next], room),
+        Ok(None) => tell(0, &[0, 0], room),
+        Ok(Some(next)) => tell(0, &[1, next], room),
         Err(refusal) => refusal.number(),
     }
 }
@@ -77,7 +77,7 @@ pub fn calls_payload(frame: &[u8], room: &mut [u8]) -> u32
     ensures room { room.new ≡ written (of_payload frame.now) room.old }
 {
     match frame::read_frame(frame) {
-        Ok(_) => tell(frame::payload_of(frame), room),
+        Ok(_) => tell(0, frame::payload_of(frame), room),
         Err(fault) => fault.refusal.number(),
     }
 }
@@ -113,7 +113,7 @@ pub fn calls_broadcast(
         return refusal.number();
     }
     match broadcast::broadcast_rounds(h, table, source, scope, rounds) {
-        Ok(broadcast) => tell(&[broadcast.reached, broadcast.last], room),
+        Ok(broadcast) => tell(0, &[broadcast.reached, broadcast.last], room),
         Err(refusal) => refusal.number(),
     }
 }
@@ -142,8 +142,8 @@ pub fn calls_journey(
         retry,
         ttl,
     };
-    match forward::journey_of(Hall { n, k, b, count }, source, packet, table) {
-        Ok(journey) => tell(&journey.uids, room),
+    match &forward::journey_of(Hall { n, k, b, count }, source, packet, table) {
+        Ok(journey) => tell(0, &journey.uids, room),
         Err(refusal) => refusal.number(),
     }
 }
@@ -172,8 +172,9 @@ pub fn calls_journey_counts(
         retry,
         ttl,
     };
-    match forward::journey_of(Hall { n, k, b, count }, source, packet, table) {
+    match &forward::journey_of(Hall { n, k, b, count }, source, packet, table) {
         Ok(journey) => tell(
+            0,
             &[journey.ending.number(), journey.links, journey.reroutes],
             room,
         ),

@@ -49,8 +49,8 @@ pub fn calls_first_link(n: u32, k: u32, b: u32, count: u32, x: u32, y: u32, room
     ensures room { room.new ≡ written (of_first_link (first_link_of (hall_of n k b count) x y)) room.old }
 {
     match route::first_link(Hall { n, k, b, count }, x, y) {
-        Ok(None) => tell(&[0; 3], room),
-        Ok(Some(link)) => tell(&[link.level, link.near, link.far], room),
+        Ok(None) => tell(0, &[0; 3], room),
+        Ok(Some(link)) => tell(0, &[link.level, link.near, link.far], room),
         Err(refusal) => refusal.number(),
     }
 }

@@ -23,7 +23,7 @@ pub fn calls_next_prefix(n: u32, k: u32, b: u32, count: u32, room: &mut [u32]) -
     ensures room { room.new ≡ written (of_prefix (next_prefix (hall_of n k b count))) room.old }
 {
     match plan::next_prefix(Hall { n, k, b, count }) {
-        Ok(entries) => tell(&entries, room),
+        Ok(entries) => tell(0, &entries, room),
         Err(refusal) => refusal.number(),
     }
 }

@@ -19,7 +19,7 @@ pub fn calls_sheet(sheet: &[u8], room: &mut [u32]) -> u32
         return read.refusal;
     }
     let h = read.hall;
-    tell(&[h.n, h.k, h.b, h.count, read.packets], room)
+    tell(0, &[h.n, h.k, h.b, h.count, read.packets], room)
 }
 
 pub fn calls_sheet_place(sheet: &[u8]) -> u32
@@ -36,14 +36,14 @@ pub fn calls_sheet_codes(sheet: &[u8], room: &mut [u8]) -> u32
     if number != 0 {
         return number;
     }
-    tell(sheetparts::codes_of(sheet), room)
+    tell(0, sheetparts::codes_of(sheet), room)
 }
 
 pub fn calls_codes_part(sheet: &[u8], room: &mut [u8]) -> u32
     ensures number { result ≡ told (0, codes_part sheet.now) room.old }
     ensures room { room.new ≡ written (0, codes_part sheet.now) room.old }
 {
-    tell(sheetparts::codes_part(sheet), room)
+    tell(0, sheetparts::codes_part(sheet), room)
 }
 
 pub fn calls_sheet_packet(sheet: &[u8], i: u32, room: &mut [u32]) -> u32
@@ -55,6 +55,7 @@ pub fn calls_sheet_packet(sheet: &[u8], i: u32, room: &mut [u32]) -> u32
         return p.refusal;
     }
     tell(
+        0,
         &[p.source, p.dst, u32::from(p.retry), u32::from(p.ttl)],
         room,
     )
@@ -75,6 +76,7 @@ pub fn calls_packet_fields(sheet: &[u8], i: u32, room: &mut [u32]) -> u32
         return p.refusal;
     }
     tell(
+        0,
         &[
             p.place,
             p.source,

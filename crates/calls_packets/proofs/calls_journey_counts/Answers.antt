@@ -4,10 +4,10 @@ use Rattle.hall.proofs.Stated.{refusal_told, refusal_unwritten}
 use Rattle.calls_packets.proofs.calls_journey_counts.Goals as goal
 
 pub returns-in-Ok-clause-room : goal.returns-in-Ok-clause-room
-returns-in-Ok-clause-room c = rw (← c.in-Ok.ensures, ← c.number.ensures) c.tell.ensures.room
+returns-in-Ok-clause-room c = let e = rw c.in-Ok.is at c.journey_of.ensures in rw (← e, ← c.number.ensures) c.tell.ensures.room
 
 pub returns-in-Err-clause-number : goal.returns-in-Err-clause-number
-returns-in-Err-clause-number c = rw (← c.in-Err.ensures) (c.number-in-Err.ensures ∙ refusal_told _ _ _)
+returns-in-Err-clause-number c = let e = rw c.in-Err.is at c.journey_of.ensures in rw (← e) (c.number-in-Err.ensures ∙ refusal_told _ _ _)
 
 pub returns-in-Err-clause-room : goal.returns-in-Err-clause-room
-returns-in-Err-clause-room c = rw (← c.in-Err.ensures) (refusal_unwritten _ _ _)
+returns-in-Err-clause-room c = let e = rw c.in-Err.is at c.journey_of.ensures in rw (← e) (refusal_unwritten _ _ _)
