@@ -20,7 +20,11 @@ pub(crate) fn digits(v: u32) -> usize
     ensures length { result ≡ length (decimal v) }
     ensures most { result ≤ 10 }
 {
-    v.max(1).ilog10() as usize + 1
+    // Most numbers of a line are small, and one of a single digit takes no logarithm.
+    if v < 10 {
+        return 1;
+    }
+    v.ilog10() as usize + 1
 }
 
 // HALL and three numbers, a byte behind each.

@@ -6,6 +6,8 @@ ghost use Rattle.words.specs.Rooms.{put};
 use crate::lengths::digits;
 use crate::{DELIVERED, PacketReport};
 
+const DIGIT_ZERO: u32 = 48;
+
 const SPACE: u8 = 32;
 
 const COLON: u8 = 58;
@@ -26,6 +28,10 @@ pub(crate) fn put_number(room: &mut [u8], at: usize, v: u32) -> usize
     ensures next { result ≡ at + length (decimal v) }
     ensures room { room.new ≡ put room.old at (decimal v) }
 {
+    if v < 10 {
+        room[at] = (DIGIT_ZERO + v) as u8;
+        return at + 1;
+    }
     let next = at + digits(v);
     itoa::write_digits(u64::from(v), room, next);
     next
