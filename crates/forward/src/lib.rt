@@ -19,7 +19,7 @@ ghost use Rattle.forward.specs.Seen.{seen, usable};
 ghost use Rattle.forward.specs.Proxies.{choice};
 ghost use Rattle.forward.specs.Steps.{step_from, reroute_on, step};
 ghost use Rattle.forward.specs.Journeys.{trip};
-ghost use Rattle.forward.specs.Answers.{most_passed, step_of, step_stated, journey_from, journey_told, journey_of, journey_stated};
+ghost use Rattle.forward.specs.Answers.{most_passed, step_of, step_stated, journey_from, journey_of, journey_stated};
 ghost use Rattle.forward.specs.Inside.{Here, Target, Ahead, Standing, Stopped, Above, Placed, Crossed, Servers, Sound, Departing, held, lent, cleared_if, way_to, way_over, outlook_of, turn_of, asks_below};
 
 use crate::endings::{Ending, Onward};
@@ -661,10 +661,10 @@ fn no_uids() -> [u32; MOST_PASSED]
 }
 
 // The journey of a packet that nothing refuses. The step that ends it ends the loop too, which stays a `loop`: behind a `for` an answer would be wanted
-// that no journey has.
-fn travel(h: Hall, table: &[u8], source: u32, packet: Packet) -> Journey
+// that no journey has. It is answered as a `Result`, which it always is there, since it is large: a journey put into one by its caller is copied.
+fn travel(h: Hall, table: &[u8], source: u32, packet: Packet) -> Result<Journey, Refusal>
     requires { Departing h table.now source packet }
-    ensures { journey_told result ≡ journey_from (trip h (counted h 0 table.now) source packet) }
+    ensures { journey_stated result ≡ journey_from (trip h (counted h 0 table.now) source packet) }
 {
     let mut uids = no_uids();
     let mut me = source;
@@ -677,12 +677,12 @@ fn travel(h: Hall, table: &[u8], source: u32, packet: Packet) -> Journey
         reroutes += o.reroutes;
         match o.onward {
             Onward::Ends { ending } => {
-                return Journey {
+                return Ok(Journey {
                     ending,
                     links: at as u32,
                     reroutes,
                     uids,
-                };
+                });
             }
             Onward::To { next } => me = next,
         }
@@ -700,5 +700,5 @@ pub fn journey_of(h: Hall, source: u32, packet: Packet, table: &[u8]) -> Result<
         return Err(Refusal::BadHall);
     }
     refused(servers, bytes_of(servers, h.k), table, source, packet)?;
-    Ok(travel(h, table, source, packet))
+    travel(h, table, source, packet)
 }

@@ -82,8 +82,8 @@ pub fn journey_line(
         return Err(Refusal::BadRange.number());
     }
     let p = sheetparts::packet_fields(sheet, i);
-    match journey_at(sheet, read, i) {
-        Ok(j) => told_line(room, at, p, &j).map_err(Refusal::number),
+    match &journey_at(sheet, read, i) {
+        Ok(j) => told_line(room, at, p, j).map_err(Refusal::number),
         Err(refusal) => Err(refusal.number()),
     }
 }
@@ -95,10 +95,11 @@ fn told_at(room: &mut [u8], at: usize, sheet: &[u8], read: Sheet, i: u32) -> Res
     ensures room { room.new ≡ room_of room.old at (journey_text sheet.now read i) }
 {
     let p = sheetparts::packet_fields(sheet, i);
-    let Ok(j) = journey_at(sheet, read, i) else {
+    // A journey is looked at where it lies, since it is large.
+    let Ok(j) = &journey_at(sheet, read, i) else {
         unreachable!()
     };
-    told_line(room, at, p, &j)
+    told_line(room, at, p, j)
 }
 
 // Line i of a sheet's trace.

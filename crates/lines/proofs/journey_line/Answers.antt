@@ -25,10 +25,11 @@ returns-in-Ok c =
     let a = c.args in
     let p = c.packet_fields-p in
     let o = c.told_line.ensures in
+    let j = rw c.in-Ok.is at c.journey_at.ensures in
     let e = refused_journey_lem a.sheet.now a.read a.i c.if-read-ne0.false (omega (arith, c.if-read-i.false)) in
-    let f = text_told a.sheet.now a.read a.i p.result (journey_told c.in-Ok.j) p.ensures c.in-Ok.ensures in
+    let f = text_told a.sheet.now a.read a.i p.result (journey_told c.in-Ok.j) p.ensures j in
     let w = line_numbered _ _ c.map_err.ensures.cases in
-    let it = line_told a.room.now a.at _ _ 0 (written_by_number c.map_err.result) _ (e ∙ sym (ap (λ (x : JourneyAnswer). x.refusal) c.in-Ok.ensures)) refl
+    let it = line_told a.room.now a.at _ _ 0 (written_by_number c.map_err.result) _ (e ∙ sym (ap (λ (x : JourneyAnswer). x.refusal) j)) refl
     (w ∙ rw f at o.answer, rw f at o.room) in
     record { answer = it.0; room = it.1 }
 
@@ -36,5 +37,5 @@ pub returns-in-Err : goal.returns-in-Err
 returns-in-Err c =
     let a = c.args in
     let e = refused_journey_lem a.sheet.now a.read a.i c.if-read-ne0.false (omega (arith, c.if-read-i.false)) in
-    let it = line_refused a.room.now a.at _ _ _ _ (e ∙ sym (ap (λ (x : JourneyAnswer). x.refusal) c.in-Err.ensures)) (number_not_zero _) (ap no_line c.number-in-Err.ensures) in
+    let it = line_refused a.room.now a.at _ _ _ _ (e ∙ sym (ap (λ (x : JourneyAnswer). x.refusal) (rw c.in-Err.is at c.journey_at.ensures))) (number_not_zero _) (ap no_line c.number-in-Err.ensures) in
     record { answer = it.0; room = it.1 }
