@@ -75,7 +75,7 @@ module _ (s : List ℕ) (read : Sheet) (first : List ℕ) (from lines : ℕ) whe
   }
 
   module _ (room : List ℕ) (next end : ℕ) (u : Underway s read first room from lines next end) where
-    kept : length room ≡ length first
+    pub kept : length room ≡ length first
     kept = ap length u.text ∙ length-put first 0 (lines_text s read from u.count) (omega (arith, u.place, u.within))
 
     -- a line more

@@ -145,7 +145,7 @@ module _ (h : Hall) (table : List ℕ) where
       part_taken : part_refusal h table u ≡ 0
       part_taken = sym e ∙ taken_told r z
 
-      part_sound : Sound h table u
+      pub part_sound : Sound h table u
       part_sound = sound h table u part_taken
 
       part_size : count ≡ t h.n h.b
